@@ -1,0 +1,8 @@
+//! The machine: regions of memory, eight registers, and steps by the written subset of i386.
+#![tactic(auto)]
+
+mod event;
+mod instruction;
+
+pub use event::{Cause, Event, RunEnd, Standing};
+pub use instruction::Reg;
