@@ -58,14 +58,29 @@ outcome_of (standing.Stuck cause) = outcome.Wrong
 abbrev pub seen_of : Run → runs.State
 seen_of run = record { outcome = outcome_of run.machine.standing; acts = run.acts }
 
+-- the last of some steps: what led there, what the outside answered, and what came of it
+pub record LastStep (before : List Act → State → Type 0) (acts : List Act) (m' : State) : Type 0 where
+  pub acts_before : List Act
+  pub from : State
+  pub next : Option ℕ
+  pub led : before acts_before from
+  pub acts_are : acts ≡ acts_before ++ acts_of (step from next).event
+  pub leads : m' ≡ (step from next).after
+
+-- n steps lead from m to m' with these acts, on some answers of the outside
+abbrev pub Path : State → ℕ → List Act → State → Type 0
+Path m zero acts m' = (acts ≡ []) × (m' ≡ m)
+Path m (suc n) acts m' = LastStep (Path m n) acts m'
+
 -- n steps were taken over this outside: the output has grown by just what was emitted, and the input lacks just what was taken
 -- m, i, o: before; m', i', o': after
 pub record Ran (m : State) (n : ℕ) (i : SourceSeen) (o : SinkSeen) (m' : State) (i' : SourceSeen) (o' : SinkSeen) : Type 0 where
-  pub emits : List ℕ
-  pub exact : (input : List ℕ) → i.told ≡ Some input → emits ≡ runs.emitted (after m input n).acts
-  pub machine : (input : List ℕ) → i.told ≡ Some input → m' ≡ (after m input n).machine
-  pub output : o' ≡ grown o emits
-  pub input : i' ≡ record i { told = option_map (λ rest. drop (runs.taken (after m rest n).acts) rest) i.told }
+  pub acts : List Act
+  pub path : Path m n acts m'
+  pub acts_are : (input : List ℕ) → i.told ≡ Some input → acts ≡ (after m input n).acts
+  pub machine_is : (input : List ℕ) → i.told ≡ Some input → m' ≡ (after m input n).machine
+  pub output : o' ≡ grown o (runs.emitted acts)
+  pub input : i' ≡ record i { told = option_map (λ rest. drop (runs.taken acts) rest) i.told }
 
 -- fewer steps were taken, and at the next one the outside failed
 pub record CutOff (m : State) (steps : ℕ) (i : SourceSeen) (o : SinkSeen) (m' : State) (comes : Doing → Type 0) (failed : SourceSeen → SinkSeen → Type 0) : Type 0 where
