@@ -1,0 +1,79 @@
+-- The machine's steps on the instructions of a unit's code, one equation for each.
+use Rattle.std.specs.Prelude.{◌≡◌, ℕ, zero, suc, ◌+◌, ◌%◌, ◌<◌, ◌^◌, List, [], ◌∷◌, ◌++◌, length, get_or, set, Option, Some, None, option_map, slice_get}
+use Rattle.std.proofs.Common.{arith, ◌∙◌, ap, sym, refl, append-nil}
+use Rattle.cc_base.specs.Words.{byte_of, word_bytes, join, join-word_bytes, add32}
+use Rattle.cc_base.specs.declared.run.Act.{Act}
+use Rattle.cc_base.specs.declared.run.Act.TheVariants.{Gave}
+use Rattle.i386_machine.specs.declared.instruction.Reg.{Reg}
+use Rattle.i386_machine.specs.declared.instruction.Reg.TheVariants.{Eax, Ecx, Edx, Ebx, Esp}
+use Rattle.i386_machine.specs.declared.instruction.Instr.{Instr}
+use Rattle.i386_machine.specs.declared.instruction.Instr.TheVariants as instr
+use Rattle.i386_machine.specs.declared.event.Standing.TheVariants as standing
+use Rattle.i386_machine.specs.Regions.{Region, fetch, word_at, store_word, byte_at}
+use Rattle.i386_machine.specs.Instructions.{decoded, number_of}
+use Rattle.i386_machine.specs.Machine.{State, with_register}
+use Rattle.i386_machine.specs.Step.{Doing, Goes, Asks, Gives, Ends, Sticks, doing, fetched, executed, effect, accessed, past, popped, answered, stepped, write_call, system_call}
+use Rattle.i386_machine.specs.Runs.{Run, advance, left_after, acts_of}
+use Rattle.pass_core.specs.Semantics.{iterate}
+use Rattle.ccelf_build.proofs.StackAndCode.{memory_of, stack_word, with_word, Whole, InStack, word_at-stack, store_word-stack, byte_at-stack, Here, skip, fetch-here, place}
+
+-- one step. It is opaque, so that many of them are compared by their equations alone
+pub hop : Run → Run
+hop run = advance run
+
+pub hop-is : (run : Run) → hop run ≡ advance run
+unfolding hop
+hop-is run = refl
+
+-- what comes of what there is to do
+abbrev came : Doing → State → List ℕ → List Act → Run
+came d m left acts = let s = stepped d m (slice_get left 0) in record { machine = s.after; left = left_after s.event left; acts = acts ++ acts_of s.event }
+
+abbrev pub run_of : State → List ℕ → List Act → Run
+run_of m left acts = record { machine = m; left = left; acts = acts }
+
+pub hop-goes : (m m' : State) (left : List ℕ) (acts : List Act) → doing m ≡ Goes m' → hop (run_of m left acts) ≡ run_of m' left acts
+unfolding hop
+hop-goes m m' left acts e = ap (λ (d : Doing). came d m left acts) e ∙ ap (run_of m' left) (append-nil acts)
+
+pub hop-gives : (m : State) (byte : ℕ) (left : List ℕ) (acts : List Act) → doing m ≡ Gives byte → hop (run_of m left acts) ≡ run_of (answered 1 m) left (acts ++ Gave byte ∷ [])
+unfolding hop
+hop-gives m byte left acts e = ap (λ (d : Doing). came d m left acts) e
+
+pub hop-ends : (m : State) (status : ℕ) (left : List ℕ) (acts : List Act) → doing m ≡ Ends status → hop (run_of m left acts) ≡ run_of (record m { standing = standing.Ended status }) left acts
+unfolding hop
+hop-ends m status left acts e = ap (λ (d : Doing). came d m left acts) e ∙ ap (run_of (record m { standing = standing.Ended status }) left) (append-nil acts)
+
+-- one step, and then n
+pub one_more : {S : Type 0} (f : S → S) (n : ℕ) (s s' t : S) → f s ≡ s' → iterate f n s' ≡ t → iterate f (suc n) s ≡ t
+one_more f n s s' t e h = ap (iterate f n) e ∙ h
+
+-- the eight registers
+abbrev pub words : ℕ → ℕ → ℕ → ℕ → ℕ → ℕ → ℕ → ℕ → List ℕ
+words eax ecx edx ebx esp ebp esi edi = eax ∷ ecx ∷ edx ∷ ebx ∷ esp ∷ ebp ∷ esi ∷ edi ∷ []
+
+-- the machine in code, with this stack
+abbrev pub machine_at : List ℕ → ℕ → List ℕ → List ℕ → State
+machine_at code e registers bytes = record { regions = memory_of bytes code; registers = registers; eip = e; standing = standing.Running }
+
+-- it does what the instruction there says
+pub doing-here : (code bytes registers : List ℕ) (e : ℕ) (i : Instr) (xs : List ℕ) → 0 < length xs → Here code e xs → decoded xs ≡ Some i → doing (machine_at code e registers bytes) ≡ effect i (machine_at code e registers bytes)
+doing-here code bytes registers e i xs some h d =
+    let m = machine_at code e registers bytes in
+    ap (λ (o : Option (List ℕ)). fetched o m) (fetch-here bytes code e xs some h) ∙ ap (λ (o : Option Instr). executed o m) d
+
+-- a word is stored in the stack
+pub stores : (code bytes registers : List ℕ) (e : ℕ) (i : Instr) (xs : List ℕ) (top word : ℕ) (after : List Region → State) → 0 < length xs → Here code e xs → decoded xs ≡ Some i → Whole bytes → InStack top 4
+    → effect i (machine_at code e registers bytes) ≡ accessed top (option_map after (store_word (memory_of bytes code) top word))
+    → doing (machine_at code e registers bytes) ≡ Goes (after (memory_of (with_word bytes top word) code))
+stores code bytes registers e i xs top word after some h dec whole inside eff =
+    doing-here code bytes registers e i xs some h dec ∙ eff
+    ∙ ap (λ (o : Option (List Region)). accessed top (option_map after o)) (store_word-stack bytes code top word whole inside)
+
+-- a word of the stack is read
+pub reads : (code bytes registers : List ℕ) (e : ℕ) (i : Instr) (xs : List ℕ) (top : ℕ) (after : ℕ → State) → 0 < length xs → Here code e xs → decoded xs ≡ Some i → Whole bytes → InStack top 4
+    → effect i (machine_at code e registers bytes) ≡ accessed top (option_map after (word_at (memory_of bytes code) top))
+    → doing (machine_at code e registers bytes) ≡ Goes (after (stack_word bytes top))
+reads code bytes registers e i xs top after some h dec whole inside eff =
+    doing-here code bytes registers e i xs some h dec ∙ eff
+    ∙ ap (λ (o : Option ℕ). accessed top (option_map after o)) (word_at-stack bytes code top whole inside)
