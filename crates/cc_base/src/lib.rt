@@ -12,6 +12,8 @@ mod number_text;
 mod outside;
 mod run;
 mod sequence;
+#[cfg(test)]
+mod tests;
 
 pub use host::{HostFiles, HostSink, HostSource};
 pub use in_memory::{MemFiles, MemSink, MemSource};
