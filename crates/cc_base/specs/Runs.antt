@@ -3,7 +3,7 @@ use Rattle.std.specs.Prelude.{◌≡◌, ◌≢◌, ℕ, ◌+◌, suc, List, [],
 use Rattle.cc_base.specs.declared.run.Act.{Act}
 use Rattle.cc_base.specs.declared.run.Act.TheVariants.{Took, AtEnd, Gave}
 use Rattle.cc_base.specs.declared.run.Outcome.{Outcome}
-use Rattle.cc_base.specs.declared.run.Outcome.TheVariants.{Running, Ended, Wrong, Deep}
+use Rattle.cc_base.specs.declared.run.Outcome.TheVariants.{Running}
 
 -- what a run has come to: how it stands, and what it did to the outside, in the order in which that happened
 pub record State : Type 0 where

@@ -1,5 +1,5 @@
 // The host's files, input and output. They tell no bytes, and count what fails.
-ghost use Rattle.std.specs.Prelude.{◌≡◌, ◌≤◌, ◌<◌, vec_len, IfOk, IfErr, OnOk, length};
+ghost use Rattle.std.specs.Prelude.{◌≡◌, ◌≤◌, true, ◌<◌, vec_len, IfOk, IfErr, OnOk, length};
 ghost use Rattle.cc_base.specs.Host.{files_seen, source_seen, sink_seen};
 
 use crate::outside::{FILE_LIMIT, Failed, Files, GetFault, GiveFault, PutFault, Sink, Source};
@@ -85,7 +85,9 @@ fn read_file<R: Read>(alloc: Global, reader: &mut R) -> Result<Vec<u8>, GetFault
     Err(GetFault::Failed)
 }
 
-/// The host's files, by their paths. A folder, or a path through a file, is a fault of reading.
+/// The host's files, by their paths, with a count of each kind of refusal. `get` reads at most one byte past
+/// `FILE_LIMIT`. A folder, or a path through a file, is a fault of reading, and so is a read that was interrupted
+/// 1,000 times; a write that was interrupted so often, or takes nothing, is a fault of writing.
 #[derive(Drop)]
 pub struct HostFiles<'a, R: std::rt::Files> {
     rt: &'a R,
@@ -96,7 +98,10 @@ pub struct HostFiles<'a, R: std::rt::Files> {
 }
 
 impl<'a, R: std::rt::Files> HostFiles<'a, R> {
-    pub fn new(rt: &'a R) -> HostFiles<'a, R> {
+    /// The files of this runtime. Nothing has failed yet.
+    pub fn new(rt: &'a R) -> HostFiles<'a, R>
+        ensures { files_seen result.read_faults result.write_faults result.misses result.longs ≡ files_seen 0 0 0 0 }
+    {
         HostFiles {
             rt,
             read_faults: 0,
@@ -152,7 +157,8 @@ impl<'a, R: std::rt::Files> Files for HostFiles<'a, R> {
     }
 }
 
-/// A reader as a source. It reads as many bytes as the reader has ready, up to a chunk.
+/// A reader as a source. It reads as many bytes as the reader has ready, up to 8,192. A read that was interrupted
+/// 1,000 times is a failure.
 #[derive(Drop)]
 pub struct HostSource<R: Read + Drop> {
     reader: R,
@@ -164,7 +170,10 @@ pub struct HostSource<R: Read + Drop> {
 }
 
 impl<R: Read + Drop> HostSource<R> {
-    pub fn new(reader: R) -> HostSource<R> {
+    /// A source of what the reader gives. Nothing is read yet, and nothing has failed.
+    pub fn new(reader: R) -> HostSource<R>
+        ensures { source_seen result.faults ≡ source_seen 0 }
+    {
         HostSource {
             reader,
             buffer: [0u8; CHUNK],
@@ -200,8 +209,9 @@ impl<R: Read + Drop> Source for HostSource<R> {
     }
 }
 
-/// A writer as a sink. Bytes go out where the buffer is full, and at a flush; what a failed write did not take stays
-/// in the buffer.
+/// A writer as a sink. Bytes go out where the buffer of 8,192 is full, and at a flush; what a failed write did not
+/// take stays in the buffer. A write that was interrupted 1,000 times, or takes nothing, is a failure. It takes no
+/// memory.
 #[derive(Drop)]
 pub struct HostSink<W: Write + Drop> {
     writer: W,
@@ -213,7 +223,10 @@ pub struct HostSink<W: Write + Drop> {
 }
 
 impl<W: Write + Drop> HostSink<W> {
-    pub fn new(writer: W) -> HostSink<W> {
+    /// A sink that writes to the writer. Nothing is given yet, and nothing has failed.
+    pub fn new(writer: W) -> HostSink<W>
+        ensures { sink_seen result.flushed result.faults ≡ sink_seen true 0 }
+    {
         HostSink {
             writer,
             buffer: [0u8; CHUNK],

@@ -22,6 +22,8 @@ fn find<'a>(log: &'a VecDeque<(Bytes, Bytes)>, name: &[u8]) -> Option<&'a Bytes>
     None
 }
 
+/// Files in memory, which tell their bytes. The calls of `get` and `put` are counted together, from 1, and those that
+/// are to fail answer Failed.
 #[derive(Drop)]
 pub struct MemFiles {
     // newest first
@@ -35,6 +37,7 @@ pub struct MemFiles {
 }
 
 impl MemFiles {
+    /// No files, and the numbers of the calls that are to fail. It takes no memory.
     pub fn new(alloc: Global, fails: Calls) -> MemFiles
         ensures { files_seen result ≡ record { told = Some map.empty; read_faults = 0; write_faults = 0; misses = 0; longs = 0 } }
     {
@@ -55,6 +58,12 @@ impl MemFiles {
     {
         self.calls = self.calls.saturating_add(1);
         self.fails.as_slice().contains(&self.calls)
+    }
+
+    // How often a read failed, a write failed, a name was missing and a file was too long.
+    #[cfg(test)]
+    pub(crate) fn counts(&self) -> [u64; 4] {
+        [self.read_faults, self.write_faults, self.misses, self.longs]
     }
 }
 
@@ -102,6 +111,8 @@ impl Files for MemFiles {
     }
 }
 
+/// A source of bytes in memory, which tells those that remain. Its calls are counted from 1, and those that are to
+/// fail answer Failed.
 #[derive(Drop)]
 pub struct MemSource {
     bytes: Bytes,
@@ -112,6 +123,7 @@ pub struct MemSource {
 }
 
 impl MemSource {
+    /// A source of these bytes, and the numbers of the calls that are to fail. It takes no memory.
     pub fn new(bytes: Bytes, fails: Calls) -> MemSource
         ensures { source_seen result ≡ record { told = Some bytes; faults = 0 } }
     {
@@ -124,7 +136,7 @@ impl MemSource {
         }
     }
 
-    /// The told rest.
+    /// The bytes that remain.
     pub fn rest(&self) -> &[u8]
         ensures { (source_seen self.now).told ≡ Some result.now }
     {
@@ -157,6 +169,8 @@ impl Source for MemSource {
     }
 }
 
+/// A sink in memory, which tells the bytes that it has got. The calls of `give` and `flush` are counted together,
+/// from 1, and those that are to fail answer Failed.
 #[derive(Drop)]
 pub struct MemSink {
     bytes: Bytes,
@@ -168,6 +182,7 @@ pub struct MemSink {
 }
 
 impl MemSink {
+    /// A sink with no bytes, and the numbers of the calls that are to fail. It takes no memory.
     pub fn new(alloc: Global, fails: Calls) -> MemSink
         ensures { sink_seen result ≡ record { told = Some []; flushed = true; faults = 0; wants = 0 } }
     {
@@ -181,6 +196,7 @@ impl MemSink {
         }
     }
 
+    /// The bytes that it has got, in their order.
     pub fn bytes(&self) -> &[u8]
         ensures { (sink_seen self.now).told ≡ Some result.now }
     {

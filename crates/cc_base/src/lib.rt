@@ -12,10 +12,12 @@ mod number_text;
 mod outside;
 mod run;
 mod sequence;
+#[cfg(test)]
+mod tests;
 
 pub use host::{HostFiles, HostSink, HostSource};
 pub use in_memory::{MemFiles, MemSink, MemSource};
-pub use number_text::{NumberText, word_text};
+pub use number_text::{NumberText, hex_text, word_text};
 pub use outside::{FILE_LIMIT, Failed, Files, GetFault, GiveFault, PutFault, Sink, Source};
 pub use run::{Act, Outcome};
 pub use sequence::{Bytes, Calls, Name, Sequence, Text, Words32};
