@@ -5,3 +5,4 @@ pub mod EndSteps
 pub mod UnitRefines
 pub mod ImageFacts
 pub mod Headline
+pub mod WordFacts

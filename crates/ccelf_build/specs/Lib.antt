@@ -3,3 +3,8 @@ pub mod Code
 pub mod Image
 pub mod Link
 pub mod ImageRun
+pub mod Answers
+pub mod Doing
+pub mod Steps
+pub mod Commands
+pub mod Orders

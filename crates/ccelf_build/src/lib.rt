@@ -1,2 +1,7 @@
 //! The commands, and the one call that does all that the program does.
 #![tactic(auto)]
+
+mod answer;
+mod words;
+
+pub use answer::{Answer, Status};
