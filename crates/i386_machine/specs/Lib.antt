@@ -1,5 +1,10 @@
 pub mod Regions
+pub mod Laws
+pub mod At
+pub mod Pieces
 pub mod Instructions
 pub mod Machine
 pub mod Step
+pub mod Needs
+pub mod StepLaws
 pub mod Runs

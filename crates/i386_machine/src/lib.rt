@@ -3,6 +3,9 @@
 
 mod event;
 mod instruction;
+mod machine;
+mod memory;
 
 pub use event::{Cause, Event, RunEnd, Standing};
 pub use instruction::Reg;
+pub use machine::Machine;
