@@ -1,5 +1,5 @@
 -- What the code's accesses are on regions.
-use Rattle.std.proofs.Common.{Bool, drop, cond, inl, inr, ◌++◌, ◌≡◌, ℕ, ◌+◌, ◌-◌, ◌<◌, List, [], ◌∷◌, length, get_or, set, map, true, false, Some, None, slice_get, arith, refl, ap, sym, subst, ◌∙◌, zero, suc}
+use Rattle.std.proofs.Common.{drop, cond, inl, inr, ◌++◌, ◌≡◌, ℕ, ◌+◌, ◌-◌, ◌<◌, List, [], ◌∷◌, length, get_or, set, map, true, false, Some, None, slice_get, arith, refl, ap, sym, subst, ◌∙◌, zero, suc}
 use Rattle.std.proofs.lemmas.List.{get_or-map, length-map, map-set}
 use Rattle.std.proofs.lemmas.Option.{slice_get_read}
 use Rattle.std.proofs.lemmas.Bool.{cond-true, cond-false}

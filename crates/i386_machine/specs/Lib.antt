@@ -3,8 +3,10 @@ pub mod Laws
 pub mod At
 pub mod Pieces
 pub mod Instructions
+pub mod Calls
 pub mod Machine
 pub mod Step
 pub mod Needs
 pub mod StepLaws
 pub mod Runs
+pub mod Turns

@@ -1,6 +1,8 @@
 -- What the machine's code answers of a step before the outside has a part in it.
-use Rattle.std.specs.Prelude.{◌≡◌, ℕ, true}
-use Rattle.i386_machine.specs.declared.instruction.Reg.TheVariants.{Ecx}
+use Rattle.std.specs.Prelude.{◌≡◌, ℕ, Bool, true, false, ◌&&◌, ◌==◌}
+use Rattle.i386_machine.specs.declared.instruction.Reg.TheVariants.{Eax, Ecx, Edx, Ebx}
+use Rattle.i386_machine.specs.declared.event.Standing.{Standing}
+use Rattle.i386_machine.specs.declared.event.Standing.TheVariants as standing
 use Rattle.i386_machine.specs.declared.machine.Need.{Need}
 use Rattle.i386_machine.specs.declared.machine.Need.TheVariants as need
 use Rattle.i386_machine.specs.Regions.{shapes, writable}
@@ -28,3 +30,12 @@ HasPlace _ m = Unit {0}
 -- on to an instruction
 abbrev pub gone_to : ℕ → State → State
 gone_to next m = record m { eip = next }
+
+abbrev pub runs : Standing → Bool
+runs standing.Running = true
+runs (standing.Ended status) = false
+runs (standing.Stuck cause) = false
+
+-- a system call would read a byte
+abbrev pub is_read_call : State → Bool
+is_read_call m = register m Eax == 3 && register m Ebx == 0 && register m Edx == 1 && writable (shapes m.regions) (register m Ecx) 1

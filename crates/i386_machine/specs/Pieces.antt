@@ -1,5 +1,5 @@
 -- How the pieces of the code are regions.
-use Rattle.std.specs.Prelude.{◌&&◌, ◌≡◌, ℕ, ◌<◌, List, map, length, true, false, get_or}
+use Rattle.std.specs.Prelude.{◌≡◌, ℕ, ◌<◌, List, map, length, true, false, get_or}
 use Rattle.i386_machine.specs.Regions.{Region, shape_of, shapes, spans, Disjoint}
 use Rattle.i386_machine.specs.declared.memory.Piece.{Piece}
 use Rattle.i386_machine.specs.declared.memory.Memory.TheInside.{Inside}

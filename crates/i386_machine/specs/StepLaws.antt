@@ -1,5 +1,5 @@
 -- Laws of the step: whatever the bytes are, regions keep their bases, lengths and rights, and a machine that is over stays as it is.
-use Rattle.std.specs.Prelude.{◌≡◌, ◌≢◌, ℕ, List, Option, Some, None, option_map, IfSome, Bool, true, false, cond, ◌==◌, ◌&&◌}
+use Rattle.std.specs.Prelude.{◌≡◌, ℕ, List, Option, Some, None, option_map, IfSome, Bool, true, false, cond, ◌==◌, ◌&&◌}
 use Rattle.std.proofs.Common.{refl, sym, ◌∙◌, ap}
 use Rattle.std.proofs.lemmas.Bool.{cond_both}
 use Rattle.cc_base.specs.Words.{add32, sub32}
@@ -8,11 +8,11 @@ use Rattle.i386_machine.specs.declared.instruction.Instr.{Instr}
 use Rattle.i386_machine.specs.declared.instruction.Instr.TheVariants as instr
 use Rattle.i386_machine.specs.declared.event.Standing.{Standing}
 use Rattle.i386_machine.specs.declared.event.Standing.TheVariants as standing
-use Rattle.i386_machine.specs.Regions.{Region, Shape, shapes, writable, readable, fetch, poke, poke_word, peek_word, byte_at}
+use Rattle.i386_machine.specs.Regions.{Shape, shapes, writable, fetch, poke_word, byte_at}
 use Rattle.i386_machine.specs.Laws.{shapes-poke, shapes-poke_word}
 use Rattle.i386_machine.specs.Instructions.{decoded}
 use Rattle.i386_machine.specs.Machine.{State, register, with_register}
-use Rattle.i386_machine.specs.Step.{Doing, Goes, Asks, Gives, Ends, Sticks, Stepped, past, pushed, popped, top_word, accessed, read_call, write_call, system_call, effect, executed, fetched, doing_at, doing, stepped, step}
+use Rattle.i386_machine.specs.Step.{Doing, Goes, Asks, Gives, Ends, Sticks, past, pushed, popped, top_word, accessed, read_call, write_call, system_call, effect, executed, fetched, doing_at, doing, stepped, step}
 
 -- where an instruction leads, regions have these shapes
 abbrev pub LeadsTo : List Shape → Doing → Type 0

@@ -1,6 +1,7 @@
 // The instructions that the machine knows, and how their bytes are read.
 ghost use Rattle.std.specs.Prelude.{◌≡◌, ◌<◌, ◌++◌, List, ℕ, Some, IfSome};
 ghost use Rattle.i386_machine.specs.Instructions.{number_of, reg_of, spelling, Fits, decoded, from_opcode, load_imm, store, call, interrupt};
+ghost use Rattle.i386_machine.specs.Calls.{is_system_call};
 ghost use Rattle.i386_machine.specs.declared.instruction.Instr.{Instr};
 
 /// The registers of 32 bits.
@@ -50,6 +51,18 @@ impl Reg {
             Reg::Ebp => 5,
             Reg::Esi => 6,
             Reg::Edi => 7,
+        }
+    }
+}
+
+impl Instr {
+    /// Whether it is `int 0x80`.
+    pub(crate) fn is_system_call(&self) -> bool
+        ensures { result ≡ is_system_call self.now }
+    {
+        match self {
+            Instr::Interrupt { number } => *number == 0x80,
+            _ => false,
         }
     }
 }

@@ -2,11 +2,12 @@
 ghost use Rattle.std.specs.Prelude.{◌≡◌, ◌≢◌, ◌+◌, ◌-◌, ◌%◌, ◌^◌, ◌<◌, ◌≤◌, [], ◌∷◌, ◌++◌, length, true, false, IsTrue, ◌↔◌, IfOk, OnOk, OnErr, OnSome, IfNone, Some, None, option_map};
 ghost use Rattle.cc_base.specs.Words.{sub32};
 ghost use Rattle.i386_machine.specs.Machine.{started, stack_region, filled, register, with_register};
-ghost use Rattle.i386_machine.specs.Needs.{doing_of, Keeps, HasPlace, gone_to};
+ghost use Rattle.i386_machine.specs.Needs.{doing_of, Keeps, HasPlace, gone_to, runs, is_read_call};
 ghost use Rattle.i386_machine.specs.Regions.{shapes, ApartFrom, writable, byte_at};
+ghost use Rattle.i386_machine.specs.Turns.{StandsAt};
 ghost use Rattle.i386_machine.specs.Step.{Asks, Gives, Ends, Sticks, doing, effect, system_call, accessed, pushed, popped, top_word, past, answered, stepped, step};
 
-use crate::event::{Cause, Event, Standing};
+use crate::event::{Cause, Event, RunEnd, Standing};
 use crate::instruction::{Instr, Reg};
 use crate::memory::Memory;
 use std::alloc::{AllocError, Global};
@@ -105,6 +106,43 @@ impl Machine {
         ensures { result ≡ byte_at self.now.regions address }
     {
         self.memory.byte_at(address)
+    }
+
+    /// Whether the next instruction is a read call that has a step.
+    pub fn wants_byte(&self) -> bool
+        ensures { IsTrue result ↔ (doing self.now ≡ Asks) }
+    {
+        if !self.is_running() {
+            return false;
+        }
+        let Some(found) = self.memory.peek_instruction(self.eip) else {
+            return false;
+        };
+        let Some(instr) = found else {
+            return false;
+        };
+        instr.is_system_call() && self.is_read_call()
+    }
+
+    fn is_running(&self) -> bool
+        ensures { result ≡ runs self.now.standing }
+    {
+        match self.standing {
+            Standing::Running => true,
+            Standing::Ended(_) => false,
+            Standing::Stuck(_) => false,
+        }
+    }
+
+    // Whether a system call would be a read of one byte from file 0 that has a place.
+    fn is_read_call(&self) -> bool
+        ensures { result ≡ is_read_call self.now }
+    {
+        let address = self.register(Reg::Ecx);
+        self.register(Reg::Eax) == 3
+            && self.register(Reg::Ebx) == 0
+            && self.register(Reg::Edx) == 1
+            && self.memory.has_room(address)
     }
 
     fn set(&mut self, reg: Reg, word: u32)
@@ -312,6 +350,20 @@ impl Machine {
     {
         self.standing = Standing::Stuck(cause);
         Event::Stuck(cause)
+    }
+
+    // How a run that is over by now has ended.
+    pub(crate) fn end_now(&self) -> RunEnd
+        ensures { StandsAt self.now result }
+    {
+        match self.standing {
+            Standing::Running => RunEnd::Spent,
+            Standing::Ended(status) => RunEnd::Ended(status),
+            Standing::Stuck(cause) => RunEnd::Stuck {
+                eip: self.eip,
+                cause,
+            },
+        }
     }
 
     /// One step. The next byte of the input matters only where a byte is wanted.

@@ -172,6 +172,30 @@ impl Memory {
         Some(piece.bytes[(at - piece.base) as usize])
     }
 
+    /// Whether a byte can be stored at an address.
+    pub(crate) fn has_room(&self, at: u32) -> bool
+        ensures { result ≡ writable (shapes self.now) at 1 }
+    {
+        let Some(index) = locate(&self.pieces, self.last_data, at, 1) else {
+            return false;
+        };
+        self.pieces[index].writable
+    }
+
+    /// The instruction at an address in code, as `instruction_at` gives it.
+    pub(crate) fn peek_instruction(&self, at: u32) -> Option<Option<Instr>>
+        ensures { result ≡ option_map decoded (fetch self.now at) }
+    {
+        let Some(index) = locate(&self.pieces, self.last_code, at, 1) else {
+            return None;
+        };
+        let piece = &self.pieces[index];
+        if !piece.executable {
+            return None;
+        }
+        Some(decode(&piece.bytes[(at - piece.base) as usize..]))
+    }
+
     /// The word at an address, where one region has its four bytes.
     pub(crate) fn load_word(&mut self, at: u32) -> Option<u32>
         ensures word { result ≡ word_at self.old at }
@@ -198,7 +222,7 @@ impl Memory {
         Some(piece.bytes[(at - piece.base) as usize])
     }
 
-    /// Whether a byte can be stored at an address.
+    /// Whether a byte can be stored at an address. The next access is tried there first.
     pub(crate) fn is_writable(&mut self, at: u32) -> bool
         ensures right { result ≡ writable (shapes self.old) at 1 }
         ensures same { self.new ≡ self.old }
