@@ -1,12 +1,12 @@
 -- What the code's accesses are on regions.
-use Rattle.std.proofs.Common.{drop, cond, inl, inr, ◌++◌, ◌≡◌, ℕ, ◌+◌, ◌-◌, ◌<◌, List, [], ◌∷◌, length, get_or, set, map, true, false, Some, None, slice_get, arith, refl, ap, sym, subst, ◌∙◌, zero, suc}
+use Rattle.std.proofs.Common.{drop, cond, ◌++◌, ◌≡◌, ℕ, ◌+◌, ◌-◌, ◌<◌, List, [], ◌∷◌, length, get_or, set, map, true, false, Some, None, slice_get, arith, refl, ap, sym, subst, ◌∙◌, zero, suc}
 use Rattle.std.proofs.lemmas.List.{get_or-map, length-map, map-set}
 use Rattle.std.proofs.lemmas.Option.{slice_get_read}
 use Rattle.std.proofs.lemmas.Bool.{cond-true, cond-false}
 use Rattle.cc_base.specs.Words.{join, byte_of}
 use Rattle.i386_machine.specs.declared.memory.Piece.{Piece}
 use Rattle.i386_machine.specs.Pieces.{region_of, HasNone, HasAt}
-use Rattle.i386_machine.specs.Regions.{fetch, Shape, Apart, ApartFrom, Region, shape_of, shapes, spans, readable, writable, word_at, byte_at, store_word, store_byte, Disjoint}
+use Rattle.i386_machine.specs.Regions.{fetch, Shape, Region, shape_of, shapes, spans, readable, writable, word_at, byte_at, store_word, store_byte, Disjoint}
 use Rattle.i386_machine.specs.Laws.{spans_facts}
 use Rattle.i386_machine.specs.At.{readable_one, readable_none, writable_none, writable_one, peek_one, peek_word_one, poke_one, poke_word_one, shapes-set, fetch_none, fetch_one}
 
@@ -95,18 +95,6 @@ byte_inside ps a i p e n h =
     let has : spans (shape_of (region_of p)) a (suc n) ≡ true = ap (λ (q : Piece). spans (shape_of (region_of q)) a (suc n)) e ∙ h.has p in
     let f = spans_facts (shape_of (region_of p)) a (suc n) has in
     omega (arith, f)
-
-apart_push : (s t : Shape) (ss : List Shape) → ApartFrom s ss → Apart s t → ApartFrom s (ss ++ t ∷ [])
-apart_push s t [] h k = (k, tt)
-apart_push s t (u ∷ ss) h k = (h.0, apart_push s t ss h.1 k)
-
-flip : (s t : Shape) → Apart s t → Apart t s
-flip s t (inl h) = inr h
-flip s t (inr h) = inl h
-
-pub disjoint_push : (s : Shape) (ss : List Shape) → Disjoint ss → ApartFrom s ss → Disjoint (ss ++ s ∷ [])
-disjoint_push s [] d h = (tt, tt)
-disjoint_push s (t ∷ ss) d h = (apart_push t s ss d.0 (flip s t h.0), disjoint_push s ss d.1 h.1)
 
 pub shapes_push : (ps : List Piece) (p : Piece) → shapes (map region_of (ps ++ p ∷ [])) ≡ shapes (map region_of ps) ++ shape_of (region_of p) ∷ []
 shapes_push [] p = refl

@@ -1,9 +1,9 @@
 -- Laws of memory in regions.
-use Rattle.std.specs.Prelude.{leb, ltb, ◌≡◌, ◌≢◌, ℕ, ◌+◌, ◌-◌, ◌<◌, ◌≤◌, ◌^◌, ◌⊎◌, Bool, true, false, cond, ◌&&◌, ◌||◌, List, [], ◌∷◌, length, get_or, set}
+use Rattle.std.specs.Prelude.{leb, ltb, ◌≡◌, ◌≢◌, ℕ, ◌+◌, ◌-◌, ◌<◌, ◌≤◌, ◌^◌, ◌⊎◌, Bool, true, false, cond, ◌&&◌, ◌||◌, List, [], ◌∷◌, ◌++◌, length, get_or, set}
 use Rattle.std.proofs.Common.{zero, suc, arith, ◌∙◌, ap, refl, subst, length-set, get_or-set_same, get_or-set_other, inl, inr}
 use Rattle.std.proofs.lemmas.Bool.{leb-false, ltb-true, ltb-false, and_cases, cond_both, leb-true, le-leb, and_parts, and_from, or_cases, or_left, or_right, cond-true, cond-false, false≢true}
 use Rattle.cc_base.specs.Words.{byte_of, join, join-word_bytes}
-use Rattle.i386_machine.specs.Regions.{Region, Shape, shape_of, shapes, spans, readable, writable, peek, poke, peek_word, poke_word}
+use Rattle.i386_machine.specs.Regions.{Region, Shape, Apart, ApartFrom, Disjoint, shape_of, shapes, spans, readable, writable, peek, poke, peek_word, poke_word}
 
 pub shapes-poke : (m : List Region) (a v : ℕ) → shapes (poke m a v) ≡ shapes m
 shapes-poke [] a v = refl
@@ -167,3 +167,16 @@ Stored-at m n a size w y st =
       | inl off ↦ st.other y (inl (leb-false a y off))
       | inr off ↦ st.other y (inr (ltb-false y (a + size) off))
     ])
+
+apart_push : (s t : Shape) (ss : List Shape) → ApartFrom s ss → Apart s t → ApartFrom s (ss ++ t ∷ [])
+apart_push s t [] h k = (k, tt)
+apart_push s t (u ∷ ss) h k = (h.0, apart_push s t ss h.1 k)
+
+flip : (s t : Shape) → Apart s t → Apart t s
+flip s t (inl h) = inr h
+flip s t (inr h) = inl h
+
+-- regions stay disjoint with one more that is apart from all
+pub disjoint_push : (s : Shape) (ss : List Shape) → Disjoint ss → ApartFrom s ss → Disjoint (ss ++ s ∷ [])
+disjoint_push s [] d h = (tt, tt)
+disjoint_push s (t ∷ ss) d h = (apart_push t s ss d.0 (flip s t h.0), disjoint_push s ss d.1 h.1)

@@ -6,7 +6,8 @@ pub mod Instructions
 pub mod Calls
 pub mod Machine
 pub mod Step
-pub mod Needs
+pub mod Pending
 pub mod StepLaws
 pub mod Runs
 pub mod Turns
+pub mod RunLaws

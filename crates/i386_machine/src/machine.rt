@@ -2,7 +2,7 @@
 ghost use Rattle.std.specs.Prelude.{◌≡◌, ◌≢◌, ◌+◌, ◌-◌, ◌%◌, ◌^◌, ◌<◌, ◌≤◌, [], ◌∷◌, ◌++◌, length, true, false, IsTrue, ◌↔◌, IfOk, OnOk, OnErr, OnSome, IfNone, Some, None, option_map};
 ghost use Rattle.cc_base.specs.Words.{sub32};
 ghost use Rattle.i386_machine.specs.Machine.{started, stack_region, filled, register, with_register};
-ghost use Rattle.i386_machine.specs.Needs.{doing_of, Keeps, HasPlace, gone_to, runs, is_read_call};
+ghost use Rattle.i386_machine.specs.Pending.{doing_of, Keeps, HasPlace, gone_to, runs, is_read_call};
 ghost use Rattle.i386_machine.specs.Regions.{shapes, ApartFrom, writable, byte_at};
 ghost use Rattle.i386_machine.specs.Turns.{StandsAt};
 ghost use Rattle.i386_machine.specs.Step.{Asks, Gives, Ends, Sticks, doing, effect, system_call, accessed, pushed, popped, top_word, past, answered, stepped, step};
@@ -31,19 +31,19 @@ impl Model for Machine {
     ghost view = { λ m. record { regions = m.memory; registers = m.registers; eip = m.eip; standing = m.standing } };
 }
 
-/// What a step needs of the outside, or comes to, before it is done.
+/// What is left to do of a step, after the machine has done what it can without the outside.
 #[derive(Clone, Copy)]
-pub(crate) enum Need {
-    /// Nothing: it is done.
+pub(crate) enum Pending {
+    /// Nothing: the step is done.
     Nothing,
-    /// The next byte of the input.
+    /// To take the next byte of the input.
     Byte,
-    /// That this byte is emitted.
-    Room(u8),
-    /// The end of the run with this status.
+    /// To emit this byte.
+    Give(u8),
+    /// To end with this status.
     End(u8),
-    /// There is no step.
-    Rest(Cause),
+    /// To stick, since there is no step.
+    Stick(Cause),
 }
 
 impl Machine {
@@ -159,18 +159,18 @@ impl Machine {
     }
 
     // Stores a word below the top of the stack, and goes on at an address.
-    fn push(&mut self, word: u32, next: u32) -> Need
+    fn push(&mut self, word: u32, next: u32) -> Pending
         ensures does { accessed (sub32 (register self.old Reg.Esp) 4) (option_map (gone_to next) (pushed self.old word)) ≡ doing_of result self.new }
         ensures kept { Keeps result self.old self.new }
         ensures place { HasPlace result self.old }
     {
         let top = self.registers[4].wrapping_sub(4);
         if !self.memory.store_word(top, word) {
-            return Need::Rest(Cause::Access { address: top });
+            return Pending::Stick(Cause::Access { address: top });
         }
         self.registers[4] = top;
         self.eip = next;
-        Need::Nothing
+        Pending::Nothing
     }
 
     // Takes the word at the top of the stack, if it can be read.
@@ -187,34 +187,34 @@ impl Machine {
         Some(word)
     }
 
-    fn pop_into(&mut self, to: Reg) -> Need
+    fn pop_into(&mut self, to: Reg) -> Pending
         ensures does { effect (Instr.Pop to) self.old ≡ doing_of result self.new }
         ensures kept { Keeps result self.old self.new }
         ensures place { HasPlace result self.old }
     {
         let address = self.register(Reg::Esp);
         let Some(word) = self.pop() else {
-            return Need::Rest(Cause::Access { address });
+            return Pending::Stick(Cause::Access { address });
         };
         self.set(to, word);
         self.pass(1);
-        Need::Nothing
+        Pending::Nothing
     }
 
-    fn return_to(&mut self) -> Need
+    fn return_to(&mut self) -> Pending
         ensures does { effect Instr.Ret self.old ≡ doing_of result self.new }
         ensures kept { Keeps result self.old self.new }
         ensures place { HasPlace result self.old }
     {
         let address = self.register(Reg::Esp);
         let Some(word) = self.pop() else {
-            return Need::Rest(Cause::Access { address });
+            return Pending::Stick(Cause::Access { address });
         };
         self.eip = word;
-        Need::Nothing
+        Pending::Nothing
     }
 
-    fn call(&mut self, by: u32) -> Need
+    fn call(&mut self, by: u32) -> Pending
         ensures does { effect (Instr.Call by) self.old ≡ doing_of result self.new }
         ensures kept { Keeps result self.old self.new }
         ensures place { HasPlace result self.old }
@@ -224,7 +224,7 @@ impl Machine {
     }
 
     // Linux's system calls by their numbers in eax: 1 exit, 3 read, 4 write.
-    fn system_call(&mut self) -> Need
+    fn system_call(&mut self) -> Pending
         ensures does { system_call self.old ≡ doing_of result self.new }
         ensures kept { Keeps result self.old self.new }
         ensures place { HasPlace result self.old }
@@ -234,24 +234,24 @@ impl Machine {
         let count = self.register(Reg::Edx);
         let address = self.register(Reg::Ecx);
         if call == 1 {
-            return Need::End((file % 256) as u8);
+            return Pending::End((file % 256) as u8);
         }
         if call == 3 && file == 0 && count == 1 {
             if !self.memory.is_writable(address) {
-                return Need::Rest(Cause::Access { address });
+                return Pending::Stick(Cause::Access { address });
             }
-            return Need::Byte;
+            return Pending::Byte;
         }
         if call == 4 && file == 1 && count == 1 {
             let Some(byte) = self.memory.load_byte(address) else {
-                return Need::Rest(Cause::Access { address });
+                return Pending::Stick(Cause::Access { address });
             };
-            return Need::Room(byte);
+            return Pending::Give(byte);
         }
-        Need::Rest(Cause::System)
+        Pending::Stick(Cause::System)
     }
 
-    fn execute(&mut self, instr: Instr) -> Need
+    fn execute(&mut self, instr: Instr) -> Pending
         ensures does { effect instr self.old ≡ doing_of result self.new }
         ensures kept { Keeps result self.old self.new }
         ensures place { HasPlace result self.old }
@@ -260,13 +260,13 @@ impl Machine {
             Instr::LoadImm { to, value } => {
                 self.set(to, value);
                 self.pass(5);
-                Need::Nothing
+                Pending::Nothing
             }
             Instr::Store { to, from } => {
                 let word = self.register(from);
                 self.set(to, word);
                 self.pass(2);
-                Need::Nothing
+                Pending::Nothing
             }
             Instr::Push { from } => {
                 let word = self.register(from);
@@ -280,7 +280,7 @@ impl Machine {
                 if number == 0x80 {
                     self.system_call()
                 } else {
-                    Need::Rest(Cause::System)
+                    Pending::Stick(Cause::System)
                 }
             }
         }
@@ -288,21 +288,21 @@ impl Machine {
 
     // Does the step as far as the machine alone can: an instruction that stays inside is done, and for the others
     // the machine is unchanged.
-    pub(crate) fn advance(&mut self) -> Need
+    pub(crate) fn advance(&mut self) -> Pending
         ensures does { doing self.old ≡ doing_of result self.new }
         ensures kept { Keeps result self.old self.new }
         ensures place { HasPlace result self.old }
     {
         match self.standing {
             Standing::Running => {}
-            Standing::Ended(status) => return Need::End(status),
-            Standing::Stuck(cause) => return Need::Rest(cause),
+            Standing::Ended(status) => return Pending::End(status),
+            Standing::Stuck(cause) => return Pending::Stick(cause),
         }
         let Some(found) = self.memory.instruction_at(self.eip) else {
-            return Need::Rest(Cause::Fetch);
+            return Pending::Stick(Cause::Fetch);
         };
         let Some(instr) = found else {
-            return Need::Rest(Cause::Decode);
+            return Pending::Stick(Cause::Decode);
         };
         self.execute(instr)
     }
@@ -345,7 +345,7 @@ impl Machine {
         Event::Ended(status)
     }
 
-    pub(crate) fn rest(&mut self, cause: Cause) -> Event
+    pub(crate) fn stick(&mut self, cause: Cause) -> Event
         ensures { record { event = result; after = self.new } ≡ stepped (Sticks cause) self.old None }
     {
         self.standing = Standing::Stuck(cause);
@@ -373,11 +373,11 @@ impl Machine {
         ensures over { self.old.standing ≢ Standing.Running → self.new ≡ self.old }
     {
         match self.advance() {
-            Need::Nothing => Event::On,
-            Need::Byte => self.take(next),
-            Need::Room(byte) => self.gave(byte),
-            Need::End(status) => self.end(status),
-            Need::Rest(cause) => self.rest(cause),
+            Pending::Nothing => Event::On,
+            Pending::Byte => self.take(next),
+            Pending::Give(byte) => self.gave(byte),
+            Pending::End(status) => self.end(status),
+            Pending::Stick(cause) => self.stick(cause),
         }
     }
 }

@@ -3,7 +3,7 @@ ghost use Rattle.i386_machine.specs.Runs.{Runs};
 ghost use Rattle.i386_machine.specs.Turns.{Turns};
 
 use crate::event::RunEnd;
-use crate::machine::{Machine, Need};
+use crate::machine::{Machine, Pending};
 use cc_base::{GiveFault, Sink, Source};
 
 // One step, or the end of the run.
@@ -15,15 +15,15 @@ fn turn<S: Source, O: Sink>(
     ensures { Turns machine.old (S.seen input.old) (O.seen output.old) result machine.new (S.seen input.new) (O.seen output.new) }
 {
     match machine.advance() {
-        Need::Nothing => Ok(()),
-        Need::Byte => match input.next() {
+        Pending::Nothing => Ok(()),
+        Pending::Byte => match input.next() {
             Ok(next) => {
                 machine.take(next);
                 Ok(())
             }
             Err(_) => Err(RunEnd::Read),
         },
-        Need::Room(byte) => match output.give(byte) {
+        Pending::Give(byte) => match output.give(byte) {
             Ok(()) => {
                 machine.gave(byte);
                 Ok(())
@@ -31,12 +31,12 @@ fn turn<S: Source, O: Sink>(
             Err(GiveFault::Failed) => Err(RunEnd::Write),
             Err(GiveFault::Memory) => Err(RunEnd::Memory),
         },
-        Need::End(status) => {
+        Pending::End(status) => {
             machine.end(status);
             Err(RunEnd::Ended(status))
         }
-        Need::Rest(cause) => {
-            machine.rest(cause);
+        Pending::Stick(cause) => {
+            machine.stick(cause);
             Err(RunEnd::Stuck {
                 eip: machine.eip(),
                 cause,

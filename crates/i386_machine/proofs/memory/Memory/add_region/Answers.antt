@@ -2,7 +2,8 @@ use Rattle.std.proofs.Common.{◌≡◌, ℕ, ◌-◌, ◌++◌, ◌∷◌, [], 
 use Rattle.i386_machine.specs.declared.memory.Piece.{Piece}
 use Rattle.i386_machine.specs.Pieces.{region_of}
 use Rattle.i386_machine.specs.Regions.{Region, shape_of, shapes, ApartFrom, Disjoint, zeros, length-zeros}
-use Rattle.i386_machine.proofs.Accesses.{disjoint_push, shapes_push}
+use Rattle.i386_machine.proofs.Accesses.{shapes_push}
+use Rattle.i386_machine.specs.Laws.{disjoint_push}
 use Rattle.i386_machine.proofs.memory.Memory.add_region.Goals as goal
 
 pub invariant_of-self-2 : goal.invariant_of-self-2

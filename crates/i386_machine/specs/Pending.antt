@@ -3,28 +3,28 @@ use Rattle.std.specs.Prelude.{◌≡◌, ℕ, Bool, true, false, ◌&&◌, ◌==
 use Rattle.i386_machine.specs.declared.instruction.Reg.TheVariants.{Eax, Ecx, Edx, Ebx}
 use Rattle.i386_machine.specs.declared.event.Standing.{Standing}
 use Rattle.i386_machine.specs.declared.event.Standing.TheVariants as standing
-use Rattle.i386_machine.specs.declared.machine.Need.{Need}
-use Rattle.i386_machine.specs.declared.machine.Need.TheVariants as need
+use Rattle.i386_machine.specs.declared.machine.Pending.{Pending}
+use Rattle.i386_machine.specs.declared.machine.Pending.TheVariants as pending
 use Rattle.i386_machine.specs.Regions.{shapes, writable}
 use Rattle.i386_machine.specs.Machine.{State, register}
 use Rattle.i386_machine.specs.Step.{Doing, Goes, Asks, Gives, Ends, Sticks}
 
 -- what the step does, where the machine is now in this state
-abbrev pub doing_of : Need → State → Doing
-doing_of need.Nothing now = Goes now
-doing_of need.Byte now = Asks
-doing_of (need.Room byte) now = Gives byte
-doing_of (need.End status) now = Ends status
-doing_of (need.Rest cause) now = Sticks cause
+abbrev pub doing_of : Pending → State → Doing
+doing_of pending.Nothing now = Goes now
+doing_of pending.Byte now = Asks
+doing_of (pending.Give byte) now = Gives byte
+doing_of (pending.End status) now = Ends status
+doing_of (pending.Stick cause) now = Sticks cause
 
 -- only an instruction that stays inside the machine changes it
-abbrev pub Keeps : Need → State → State → Type 0
-Keeps need.Nothing old new = Unit {0}
+abbrev pub Keeps : Pending → State → State → Type 0
+Keeps pending.Nothing old new = Unit {0}
 Keeps _ old new = new ≡ old
 
 -- a byte is asked for only where it can be stored
-abbrev pub HasPlace : Need → State → Type 0
-HasPlace need.Byte m = writable (shapes m.regions) (register m Ecx) 1 ≡ true
+abbrev pub HasPlace : Pending → State → Type 0
+HasPlace pending.Byte m = writable (shapes m.regions) (register m Ecx) 1 ≡ true
 HasPlace _ m = Unit {0}
 
 -- on to an instruction
