@@ -1,5 +1,5 @@
 -- The instructions of the machine, and their bytes (Intel SDM volume 2, chapters 3 and 4; appendix B.2 for the numbers of registers).
-use Rattle.std.specs.Prelude.{◌≡◌, ℕ, zero, suc, ◌+◌, ◌-◌, ◌*◌, ◌/◌, ◌%◌, ◌<◌, ◌^◌, List, [], ◌∷◌, Option, Some, None, Bool, ◌&&◌, ◌==◌, nat_le, if◌then◌else◌}
+use Rattle.std.specs.Prelude.{ℕ, zero, suc, ◌+◌, ◌-◌, ◌*◌, ◌/◌, ◌%◌, ◌<◌, ◌^◌, List, [], ◌∷◌, Option, Some, None, Bool, ◌&&◌, ◌==◌, nat_le, if◌then◌else◌}
 use Rattle.cc_base.specs.Words.{join, word_bytes}
 use Rattle.i386_machine.specs.declared.instruction.Reg.{Reg}
 use Rattle.i386_machine.specs.declared.instruction.Reg.TheVariants.{Eax, Ecx, Edx, Ebx, Esp, Ebp, Esi, Edi}

@@ -1,5 +1,13 @@
 pub mod Regions
+pub mod Laws
+pub mod At
+pub mod Pieces
 pub mod Instructions
+pub mod Calls
 pub mod Machine
 pub mod Step
+pub mod Pending
+pub mod StepLaws
 pub mod Runs
+pub mod Turns
+pub mod RunLaws

@@ -11,7 +11,7 @@ use Rattle.i386_machine.specs.declared.event.Standing.TheVariants as standing
 use Rattle.i386_machine.specs.declared.event.Event.{Event}
 use Rattle.i386_machine.specs.declared.event.Event.TheVariants as event
 use Rattle.i386_machine.specs.Regions.{byte_at, word_at, store_word, writable, shapes, fetch, poke}
-use Rattle.i386_machine.specs.Instructions.{decoded, size_of}
+use Rattle.i386_machine.specs.Instructions.{decoded}
 use Rattle.i386_machine.specs.Machine.{State, register, with_register}
 
 -- what the next step does, as far as the machine alone decides it

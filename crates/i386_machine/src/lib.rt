@@ -3,6 +3,11 @@
 
 mod event;
 mod instruction;
+mod machine;
+mod memory;
+mod running;
 
 pub use event::{Cause, Event, RunEnd, Standing};
 pub use instruction::Reg;
+pub use machine::Machine;
+pub use running::run;

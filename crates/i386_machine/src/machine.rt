@@ -1,0 +1,383 @@
+// The machine and its step.
+ghost use Rattle.std.specs.Prelude.{◌≡◌, ◌≢◌, ◌+◌, ◌-◌, ◌%◌, ◌^◌, ◌<◌, ◌≤◌, [], ◌∷◌, ◌++◌, length, true, false, IsTrue, ◌↔◌, IfOk, OnOk, OnErr, OnSome, IfNone, Some, None, option_map};
+ghost use Rattle.cc_base.specs.Words.{sub32};
+ghost use Rattle.i386_machine.specs.Machine.{started, stack_region, filled, register, with_register};
+ghost use Rattle.i386_machine.specs.Pending.{doing_of, Keeps, HasPlace, gone_to, runs, is_read_call};
+ghost use Rattle.i386_machine.specs.Regions.{shapes, ApartFrom, writable, byte_at};
+ghost use Rattle.i386_machine.specs.Turns.{StandsAt};
+ghost use Rattle.i386_machine.specs.Step.{Asks, Gives, Ends, Sticks, doing, effect, system_call, accessed, pushed, popped, top_word, past, answered, stepped, step};
+
+use crate::event::{Cause, Event, RunEnd, Standing};
+use crate::instruction::{Instr, Reg};
+use crate::memory::Memory;
+use std::alloc::{AllocError, Global};
+use std::marker::Model;
+
+/// A machine: regions of memory, eight registers, the address of the next instruction, and whether it runs.
+#[derive(Drop)]
+pub struct Machine {
+    memory: Memory,
+    // by their numbers
+    registers: [u32; 8],
+    eip: u32,
+    standing: Standing,
+}
+
+impl Model for Machine {
+    ghost use Rattle.i386_machine.specs.Machine.{State};
+
+    ghost Value = { State };
+
+    ghost view = { λ m. record { regions = m.memory; registers = m.registers; eip = m.eip; standing = m.standing } };
+}
+
+/// What is left to do of a step, after the machine has done what it can without the outside.
+#[derive(Clone, Copy)]
+pub(crate) enum Pending {
+    /// Nothing: the step is done.
+    Nothing,
+    /// To take the next byte of the input.
+    Byte,
+    /// To emit this byte.
+    Give(u8),
+    /// To end with this status.
+    End(u8),
+    /// To stick, since there is no step.
+    Stick(Cause),
+}
+
+impl Machine {
+    /// A machine that is about to run from an address, with a zeroed stack of so many bytes as its one region. It
+    /// answers an error only for want of memory.
+    pub fn new(alloc: Global, entry: u32, stack: u32) -> Result<Machine, AllocError>
+        requires pages { stack % 4096 ≡ 0 }
+        requires low { 4096 ≤ stack }
+        requires high { stack ≤ 67108864 }
+        ensures started { IfOk result (λ m. m ≡ started entry (stack_region stack ∷ [])) }
+        ensures shape { IfOk result (λ m. shapes m.regions ≡ record { base = 3221225472 - stack; size = stack; writable = true; executable = false } ∷ []) }
+    {
+        Ok(Machine {
+            memory: Memory::new(alloc, stack)?,
+            registers: [0, 0, 0, 0, 0xBFFF_FFF0, 0, 0, 0],
+            eip: entry,
+            standing: Standing::Running,
+        })
+    }
+
+    /// Adds a region that begins with these bytes and is zero after them. Where there is no memory for it nothing
+    /// changes.
+    pub fn add_region(
+        &mut self,
+        base: u32,
+        bytes: &[u8],
+        size: u32,
+        writable: bool,
+        executable: bool,
+    ) -> Result<(), AllocError>
+        requires some { 0 < size }
+        requires whole { length bytes.now ≤ size }
+        requires ends { base + size ≤ 2 ^ 32 }
+        requires apart { ApartFrom (record { base = base; size = size; writable = writable; executable = executable }) (shapes self.old.regions) }
+        ensures ok { OnOk result (self.new ≡ record self.old { regions = self.old.regions ++ filled base bytes.now size writable executable ∷ [] }) }
+        ensures shape { OnOk result (shapes self.new.regions ≡ shapes self.old.regions ++ record { base = base; size = size; writable = writable; executable = executable } ∷ []) }
+        ensures err { OnErr result (self.new ≡ self.old) }
+    {
+        self.memory
+            .add_region(base, bytes, size, writable, executable)?;
+        Ok(())
+    }
+
+    /// The address of the next instruction.
+    pub fn eip(&self) -> u32
+        ensures { result ≡ self.now.eip }
+    {
+        self.eip
+    }
+
+    /// The word in a register.
+    pub fn register(&self, reg: Reg) -> u32
+        ensures { result ≡ register self.now reg }
+    {
+        self.registers[reg.number()]
+    }
+
+    /// The byte at an address: None exactly outside all regions.
+    pub fn byte_at(&self, address: u32) -> Option<u8>
+        ensures { result ≡ byte_at self.now.regions address }
+    {
+        self.memory.byte_at(address)
+    }
+
+    /// Whether the next instruction is a read call that has a step.
+    pub fn wants_byte(&self) -> bool
+        ensures { IsTrue result ↔ (doing self.now ≡ Asks) }
+    {
+        if !self.is_running() {
+            return false;
+        }
+        let Some(found) = self.memory.peek_instruction(self.eip) else {
+            return false;
+        };
+        let Some(instr) = found else {
+            return false;
+        };
+        instr.is_system_call() && self.is_read_call()
+    }
+
+    fn is_running(&self) -> bool
+        ensures { result ≡ runs self.now.standing }
+    {
+        match self.standing {
+            Standing::Running => true,
+            Standing::Ended(_) => false,
+            Standing::Stuck(_) => false,
+        }
+    }
+
+    // Whether a system call would be a read of one byte from file 0 that has a place.
+    fn is_read_call(&self) -> bool
+        ensures { result ≡ is_read_call self.now }
+    {
+        let address = self.register(Reg::Ecx);
+        self.register(Reg::Eax) == 3
+            && self.register(Reg::Ebx) == 0
+            && self.register(Reg::Edx) == 1
+            && self.memory.has_room(address)
+    }
+
+    fn set(&mut self, reg: Reg, word: u32)
+        ensures { self.new ≡ with_register self.old reg word }
+    {
+        self.registers[reg.number()] = word;
+    }
+
+    // On to the next instruction.
+    fn pass(&mut self, size: u32)
+        ensures { self.new ≡ past size self.old }
+    {
+        self.eip = self.eip.wrapping_add(size);
+    }
+
+    // Stores a word below the top of the stack, and goes on at an address.
+    fn push(&mut self, word: u32, next: u32) -> Pending
+        ensures does { accessed (sub32 (register self.old Reg.Esp) 4) (option_map (gone_to next) (pushed self.old word)) ≡ doing_of result self.new }
+        ensures kept { Keeps result self.old self.new }
+        ensures place { HasPlace result self.old }
+    {
+        let top = self.registers[4].wrapping_sub(4);
+        if !self.memory.store_word(top, word) {
+            return Pending::Stick(Cause::Access { address: top });
+        }
+        self.registers[4] = top;
+        self.eip = next;
+        Pending::Nothing
+    }
+
+    // Takes the word at the top of the stack, if it can be read.
+    fn pop(&mut self) -> Option<u32>
+        ensures word { result ≡ top_word self.old }
+        ensures some { OnSome result (self.new ≡ popped self.old) }
+        ensures none { IfNone result (self.new ≡ self.old) }
+    {
+        let top = self.registers[4];
+        let Some(word) = self.memory.load_word(top) else {
+            return None;
+        };
+        self.registers[4] = top.wrapping_add(4);
+        Some(word)
+    }
+
+    fn pop_into(&mut self, to: Reg) -> Pending
+        ensures does { effect (Instr.Pop to) self.old ≡ doing_of result self.new }
+        ensures kept { Keeps result self.old self.new }
+        ensures place { HasPlace result self.old }
+    {
+        let address = self.register(Reg::Esp);
+        let Some(word) = self.pop() else {
+            return Pending::Stick(Cause::Access { address });
+        };
+        self.set(to, word);
+        self.pass(1);
+        Pending::Nothing
+    }
+
+    fn return_to(&mut self) -> Pending
+        ensures does { effect Instr.Ret self.old ≡ doing_of result self.new }
+        ensures kept { Keeps result self.old self.new }
+        ensures place { HasPlace result self.old }
+    {
+        let address = self.register(Reg::Esp);
+        let Some(word) = self.pop() else {
+            return Pending::Stick(Cause::Access { address });
+        };
+        self.eip = word;
+        Pending::Nothing
+    }
+
+    fn call(&mut self, by: u32) -> Pending
+        ensures does { effect (Instr.Call by) self.old ≡ doing_of result self.new }
+        ensures kept { Keeps result self.old self.new }
+        ensures place { HasPlace result self.old }
+    {
+        let back = self.eip.wrapping_add(5);
+        self.push(back, back.wrapping_add(by))
+    }
+
+    // Linux's system calls by their numbers in eax: 1 exit, 3 read, 4 write.
+    fn system_call(&mut self) -> Pending
+        ensures does { system_call self.old ≡ doing_of result self.new }
+        ensures kept { Keeps result self.old self.new }
+        ensures place { HasPlace result self.old }
+    {
+        let call = self.register(Reg::Eax);
+        let file = self.register(Reg::Ebx);
+        let count = self.register(Reg::Edx);
+        let address = self.register(Reg::Ecx);
+        if call == 1 {
+            return Pending::End((file % 256) as u8);
+        }
+        if call == 3 && file == 0 && count == 1 {
+            if !self.memory.is_writable(address) {
+                return Pending::Stick(Cause::Access { address });
+            }
+            return Pending::Byte;
+        }
+        if call == 4 && file == 1 && count == 1 {
+            let Some(byte) = self.memory.load_byte(address) else {
+                return Pending::Stick(Cause::Access { address });
+            };
+            return Pending::Give(byte);
+        }
+        Pending::Stick(Cause::System)
+    }
+
+    fn execute(&mut self, instr: Instr) -> Pending
+        ensures does { effect instr self.old ≡ doing_of result self.new }
+        ensures kept { Keeps result self.old self.new }
+        ensures place { HasPlace result self.old }
+    {
+        match instr {
+            Instr::LoadImm { to, value } => {
+                self.set(to, value);
+                self.pass(5);
+                Pending::Nothing
+            }
+            Instr::Store { to, from } => {
+                let word = self.register(from);
+                self.set(to, word);
+                self.pass(2);
+                Pending::Nothing
+            }
+            Instr::Push { from } => {
+                let word = self.register(from);
+                let next = self.eip.wrapping_add(1);
+                self.push(word, next)
+            }
+            Instr::Pop { to } => self.pop_into(to),
+            Instr::Call { by } => self.call(by),
+            Instr::Ret => self.return_to(),
+            Instr::Interrupt { number } => {
+                if number == 0x80 {
+                    self.system_call()
+                } else {
+                    Pending::Stick(Cause::System)
+                }
+            }
+        }
+    }
+
+    // Does the step as far as the machine alone can: an instruction that stays inside is done, and for the others
+    // the machine is unchanged.
+    pub(crate) fn advance(&mut self) -> Pending
+        ensures does { doing self.old ≡ doing_of result self.new }
+        ensures kept { Keeps result self.old self.new }
+        ensures place { HasPlace result self.old }
+    {
+        match self.standing {
+            Standing::Running => {}
+            Standing::Ended(status) => return Pending::End(status),
+            Standing::Stuck(cause) => return Pending::Stick(cause),
+        }
+        let Some(found) = self.memory.instruction_at(self.eip) else {
+            return Pending::Stick(Cause::Fetch);
+        };
+        let Some(instr) = found else {
+            return Pending::Stick(Cause::Decode);
+        };
+        self.execute(instr)
+    }
+
+    // A system call has this answer, in eax.
+    fn answer(&mut self, word: u32)
+        ensures { self.new ≡ answered word self.old }
+    {
+        self.set(Reg::Eax, word);
+        self.pass(2);
+    }
+
+    // The read call has the next byte of the input, or finds its end.
+    pub(crate) fn take(&mut self, next: Option<u8>) -> Event
+        requires { writable (shapes self.old.regions) (register self.old Reg.Ecx) 1 ≡ true }
+        ensures { record { event = result; after = self.new } ≡ stepped Asks self.old next }
+    {
+        let Some(byte) = next else {
+            self.answer(0);
+            return Event::AtEnd;
+        };
+        let address = self.register(Reg::Ecx);
+        let _stored = self.memory.store_byte(address, byte);
+        self.answer(1);
+        Event::Took
+    }
+
+    // The byte of the write call was emitted.
+    pub(crate) fn gave(&mut self, byte: u8) -> Event
+        ensures { record { event = result; after = self.new } ≡ stepped (Gives byte) self.old None }
+    {
+        self.answer(1);
+        Event::Gave(byte)
+    }
+
+    pub(crate) fn end(&mut self, status: u8) -> Event
+        ensures { record { event = result; after = self.new } ≡ stepped (Ends status) self.old None }
+    {
+        self.standing = Standing::Ended(status);
+        Event::Ended(status)
+    }
+
+    pub(crate) fn stick(&mut self, cause: Cause) -> Event
+        ensures { record { event = result; after = self.new } ≡ stepped (Sticks cause) self.old None }
+    {
+        self.standing = Standing::Stuck(cause);
+        Event::Stuck(cause)
+    }
+
+    // How a run that is over by now has ended.
+    pub(crate) fn end_now(&self) -> RunEnd
+        ensures { StandsAt self.now result }
+    {
+        match self.standing {
+            Standing::Running => RunEnd::Spent,
+            Standing::Ended(status) => RunEnd::Ended(status),
+            Standing::Stuck(cause) => RunEnd::Stuck {
+                eip: self.eip,
+                cause,
+            },
+        }
+    }
+
+    /// One step. The next byte of the input matters only where a byte is wanted.
+    pub fn step(&mut self, next: Option<u8>) -> Event
+        ensures step { record { event = result; after = self.new } ≡ step self.old next }
+        ensures shape { shapes self.new.regions ≡ shapes self.old.regions }
+        ensures over { self.old.standing ≢ Standing.Running → self.new ≡ self.old }
+    {
+        match self.advance() {
+            Pending::Nothing => Event::On,
+            Pending::Byte => self.take(next),
+            Pending::Give(byte) => self.gave(byte),
+            Pending::End(status) => self.end(status),
+            Pending::Stick(cause) => self.stick(cause),
+        }
+    }
+}
