@@ -1,6 +1,7 @@
 //! The text of a unit.
 #![tactic(auto)]
 
-mod first_form;
+mod form;
+mod reading;
 
-pub use first_form::FirstForm;
+pub use form::{FirstForm, first_form};
