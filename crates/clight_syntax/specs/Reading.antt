@@ -49,6 +49,7 @@ pub record GoesOnParted (word text rest : List ℕ) : Type 0 where
   pub left : (next : Token) (tokens : List Token) → IsWordlike next → Reads (Word word ∷ next ∷ tokens) text → Reads (next ∷ tokens) rest
   pub whole : (next : Token) (tokens : List Token) → IsWordlike next → Reads (next ∷ tokens) rest → Reads (Word word ∷ next ∷ tokens) text
 
+-- the text does not begin with the word and then a word or a number
 pub record DiffersParted (word text : List ℕ) : Type 0 where
   pub never : (next : Token) (tokens : List Token) → IsWordlike next → ¬ Reads (Word word ∷ next ∷ tokens) text
 
@@ -58,6 +59,7 @@ pub record BeginsNumber (sign n : ℕ) (text rest : List ℕ) : Type 0 where
   pub goes : GoesOn (Num n ∷ Sign sign ∷ []) text rest
   pub same : (m : ℕ) (tokens : List Token) → IsInt m → Reads (Num m ∷ Sign sign ∷ tokens) text → m ≡ n
 
+-- the text does not begin with the number of an `int` and the sign
 pub record LacksNumber (sign : ℕ) (text : List ℕ) : Type 0 where
   pub never : (m : ℕ) (tokens : List Token) → IsInt m → ¬ Reads (Num m ∷ Sign sign ∷ tokens) text
 
@@ -68,5 +70,6 @@ pub record BeginsPut (n : ℕ) (text rest : List ℕ) : Type 0 where
   pub same : (m : ℕ) (tokens : List Token) → IsInt m → Reads (put_tokens m ++ tokens) text → m ≡ n
   pub no_return : (status : ℕ) → ¬ Reads (return_tokens status) text
 
+-- the text does not begin with such a call
 pub record LacksPut (text : List ℕ) : Type 0 where
   pub never : (m : ℕ) (tokens : List Token) → IsInt m → ¬ Reads (put_tokens m ++ tokens) text

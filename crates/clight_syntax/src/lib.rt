@@ -1,4 +1,5 @@
-//! The text of a unit.
+//! The text of a unit: its tokens with blanks between them (`specs/Tokens.antt`), and the first form, a `main` that
+//! emits bytes and returns (`specs/FirstForm.antt`). `first_form` reads a text of that form.
 #![tactic(auto)]
 
 mod form;
