@@ -1,6 +1,8 @@
-//! The text of a unit.
+//! The text of a unit: its tokens with blanks between them (`specs/Tokens.antt`), and the first form, a `main` that
+//! emits bytes and returns (`specs/FirstForm.antt`). `first_form` reads a text of that form.
 #![tactic(auto)]
 
-mod first_form;
+mod form;
+mod reading;
 
-pub use first_form::FirstForm;
+pub use form::{FirstForm, first_form};

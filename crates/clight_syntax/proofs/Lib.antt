@@ -1,0 +1,5 @@
+pub mod Spans
+pub mod Numbers
+pub mod Steps
+pub mod Whole
+pub mod Going
