@@ -13,11 +13,12 @@ use Rattle.ccelf_build.specs.SourceRun.{source_after}
 use Rattle.ccelf_build.specs.Code.{put_code, rest_code, main_code, start_code, padding, text_of, text_start}
 use Rattle.ccelf_build.specs.Image.{Image, is_proper, written_image, image_in}
 use Rattle.ccelf_build.specs.Link.{linked, image_of}
+use Rattle.ccelf_build.specs.Images.{AreWords, UnitNumbers}
 use Rattle.ccelf_build.specs.ImageRun.{loaded, run_of_image, image_after}
 use Rattle.ccelf_build.proofs.StackAndCode.{Whole, Here, code_region, skip, memory_of}
 use Rattle.ccelf_build.proofs.Hops.{hop, run_of, words, machine_at}
 use Rattle.ccelf_build.proofs.EndSteps.{start, exit_code, Started}
-use Rattle.ccelf_build.proofs.UnitRefines.{AreWords, AtItem, refines_from, after-iterate, source-iterate, unit_semantics, image_semantics, Going}
+use Rattle.ccelf_build.proofs.UnitRefines.{AtItem, refines_from, after-iterate, source-iterate, unit_semantics, image_semantics, Going}
 use Rattle.ccelf_build.proofs.ImageFacts.{image_in-written, HasWords}
 
 pub length-rest_code : (puts : List ℕ) (status : ℕ) → length (rest_code puts status) ≡ 26 * length puts + 7
@@ -105,3 +106,7 @@ unit_refines puts status input s small status_small =
     (λ n. source-iterate status n puts [])
     (λ n. ap seen_of (sym (after-iterate m input n)) ∙ ap (λ x. seen_of (after x input n)) (sym (loaded-is code)) ∙ ap (λ o. run_of_image o input n) (sym (image_in-written (linked code) (linked-proper code s) (linked-words code s))))
     (refines_from (text_of code) status (add32 (134516736 + length (padded code)) 5) (padding (length code) ++ start_code (length (padded code))) s.text status_small (exit_here code s) puts (begun m input) 2 (at_first puts status input s small))
+
+-- the code of a unit is short
+pub unit_short : (puts : List ℕ) (status : ℕ) → UnitNumbers puts status → Short (main_code puts status)
+unit_short puts status u = short_code (main_code puts status) (let h = length-rest_code puts status in let f = u.few in omega arith)

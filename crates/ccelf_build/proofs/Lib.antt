@@ -6,3 +6,4 @@ pub mod UnitRefines
 pub mod ImageFacts
 pub mod Headline
 pub mod WordFacts
+pub mod ByteLists

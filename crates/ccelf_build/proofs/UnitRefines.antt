@@ -18,6 +18,7 @@ use Rattle.pass_core.specs.Semantics as semantics
 use Rattle.pass_core.specs.Simulation.{simulation_from, iterate-step, IsPrefix-refl}
 use Rattle.ccelf_build.specs.SourceRun.{put_act, source_after}
 use Rattle.ccelf_build.specs.Code.{put_code, return_code, rest_code}
+use Rattle.ccelf_build.specs.Images.{AreWords}
 use Rattle.ccelf_build.proofs.StackAndCode.{stack_word, stack_word-other, with_word, with_word-whole, Whole, InStack, Here}
 use Rattle.ccelf_build.proofs.Hops.{hop, hop-is, run_of, words, machine_at}
 use Rattle.ccelf_build.proofs.PutSteps.{put, inside}
@@ -79,11 +80,6 @@ image_steady = record {
   grows = λ r. subst (λ (x : Run). IsPrefix (seen_of r).acts (seen_of x).acts) (sym (hop-is r)) (advance_grows r);
   stays = λ r h. ap seen_of (hop-is r) ∙ over_at r.machine.standing r refl h;
 }
-
--- numbers that are words
-abbrev pub AreWords : List ℕ → Type 0
-AreWords [] = Unit {0}
-AreWords (n ∷ ns) = (n < 2 ^ 32) × AreWords ns
 
 -- the machine stands where the code of what is left begins
 pub record AtItem (code : List ℕ) (status back : ℕ) (tail : List ℕ) (left : List ℕ) (acts : List Act) (t : Run) : Type 0 where

@@ -3,6 +3,7 @@ pub mod Code
 pub mod Image
 pub mod Link
 pub mod ImageRun
+pub mod Images
 pub mod Answers
 pub mod Doing
 pub mod Steps

@@ -2,6 +2,10 @@
 #![tactic(auto)]
 
 mod answer;
+mod code;
+mod image;
+mod link;
+mod load;
 mod words;
 
 pub use answer::{Answer, Status};
