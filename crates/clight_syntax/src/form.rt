@@ -64,7 +64,8 @@ fn finish(puts: Words32, rest: &[u8]) -> Option<FirstForm>
     Some(FirstForm { puts, status })
 }
 
-/// Reads a text of the first form. It is `None` exactly where the text is not of that form.
+/// Reads a text of the first form, in linear time. It is `None` exactly where the text is not of that form. The only
+/// error is want of memory for the numbers.
 pub fn first_form(alloc: Global, text: &[u8]) -> Result<Option<FirstForm>, AllocError>
     ensures some { IfOk result (λ o. IfSome o (λ form. IsFirstForm text.now form.puts form.status)) }
     ensures only { IfOk result (λ o. (puts : List ℕ) (status : ℕ) → IsFirstForm text.now puts status → o ≡ Some (record { puts = puts; status = status })) }
