@@ -98,15 +98,27 @@ refines_along a b a' b' e f h =
     let p : a ≡ a' = λ i n. e n i in let q : b ≡ b' = λ i n. f n i in
     subst (λ (x : ℕ → State). Refines x b') p (subst (λ (x : ℕ → State). Refines a x) q h)
 
-pub unit_refines : (puts : List ℕ) (status : ℕ) (input : List ℕ) → Short (main_code puts status) → AreWords puts → status < 2 ^ 32 → Refines (source_after puts status) (image_after (image_of (main_code puts status)) input)
-unit_refines puts status input s small status_small =
+-- the loaded machine does what the unit means
+pub loaded_refines : (puts : List ℕ) (status : ℕ) (input : List ℕ) → Short (main_code puts status) → AreWords puts → status < 2 ^ 32 → Refines (source_after puts status) (λ n. seen_of (after (loaded (linked (main_code puts status))) input n))
+loaded_refines puts status input s small status_small =
     let code = main_code puts status in
     let m = machine_at (text_of code) (134516736 + length (padded code)) (words 0 0 0 0 3221225456 0 0 0) (zeros 1048576) in
-    refines_along (semantics.run_of (unit_semantics status) (Going puts [])) (semantics.run_of image_semantics (begun m input)) (source_after puts status) (image_after (image_of code) input)
+    refines_along (semantics.run_of (unit_semantics status) (Going puts [])) (semantics.run_of image_semantics (begun m input)) (source_after puts status) (λ n. seen_of (after (loaded (linked code)) input n))
     (λ n. source-iterate status n puts [])
-    (λ n. ap seen_of (sym (after-iterate m input n)) ∙ ap (λ x. seen_of (after x input n)) (sym (loaded-is code)) ∙ ap (λ o. run_of_image o input n) (sym (image_in-written (linked code) (linked-proper code s) (linked-words code s))))
+    (λ n. ap seen_of (sym (after-iterate m input n)) ∙ ap (λ x. seen_of (after x input n)) (sym (loaded-is code)))
     (refines_from (text_of code) status (add32 (134516736 + length (padded code)) 5) (padding (length code) ++ start_code (length (padded code))) s.text status_small (exit_here code s) puts (begun m input) 2 (at_first puts status input s small))
 
 -- the code of a unit is short
 pub unit_short : (puts : List ℕ) (status : ℕ) → UnitNumbers puts status → Short (main_code puts status)
 unit_short puts status u = short_code (main_code puts status) (let h = length-rest_code puts status in let f = u.few in omega arith)
+
+-- the bytes of a unit's image are read as that image
+pub unit_image : (puts : List ℕ) (status : ℕ) → UnitNumbers puts status → image_in (image_of (main_code puts status)) ≡ Some (linked (main_code puts status))
+unit_image puts status u = let s = unit_short puts status u in image_in-written (linked (main_code puts status)) (linked-proper (main_code puts status) s) (linked-words (main_code puts status) s)
+
+-- for every unit, on every input, the image's bytes refine what the unit means
+pub unit_refines : (puts : List ℕ) (status : ℕ) (input : List ℕ) → UnitNumbers puts status → Refines (source_after puts status) (image_after (image_of (main_code puts status)) input)
+unit_refines puts status input u =
+    refines_along (source_after puts status) (λ n. seen_of (after (loaded (linked (main_code puts status))) input n)) (source_after puts status) (image_after (image_of (main_code puts status)) input)
+    (λ n. refl) (λ n. ap (λ o. run_of_image o input n) (sym (unit_image puts status u)))
+    (loaded_refines puts status input (unit_short puts status u) u.puts_fit u.status_fits)

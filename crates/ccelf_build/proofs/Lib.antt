@@ -7,3 +7,13 @@ pub mod ImageFacts
 pub mod Headline
 pub mod WordFacts
 pub mod ByteLists
+pub mod LinkFacts
+pub mod FromMachine
+pub mod NeverSticks
+pub mod UnitImage
+pub mod Chains
+pub mod Growing
+pub mod Raising
+pub mod Forcing
+pub mod Keeping
+pub mod TellsAll

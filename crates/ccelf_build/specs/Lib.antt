@@ -9,3 +9,8 @@ pub mod Doing
 pub mod Steps
 pub mod Commands
 pub mod Orders
+pub mod Ends
+pub mod Kept
+pub mod Tells
+pub mod Told
+pub mod Promise

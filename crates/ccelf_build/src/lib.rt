@@ -2,10 +2,15 @@
 #![tactic(auto)]
 
 mod answer;
+mod commands;
 mod code;
+mod finish;
 mod image;
 mod link;
 mod load;
+mod steps;
+mod top;
 mod words;
 
-pub use answer::{Answer, Status};
+pub use answer::Status;
+pub use top::ccelf;
