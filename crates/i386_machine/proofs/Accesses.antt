@@ -1,11 +1,11 @@
 -- What the code's accesses are on regions.
-use Rattle.std.proofs.Common.{drop, cond, ◌++◌, ◌≡◌, ℕ, ◌+◌, ◌-◌, ◌<◌, List, [], ◌∷◌, length, get_or, set, map, true, false, Some, None, slice_get, arith, refl, ap, sym, subst, ◌∙◌, zero, suc}
+use Rattle.std.proofs.Common.{drop, cond, ◌++◌, ◌≡◌, ℕ, ◌+◌, ◌-◌, ◌<◌, ◌≤◌, List, [], ◌∷◌, length, get_or, set, map, true, false, Some, None, slice_get, arith, refl, ap, sym, ◌∙◌, zero, suc}
 use Rattle.std.proofs.lemmas.List.{get_or-map, length-map, map-set}
 use Rattle.std.proofs.lemmas.Option.{slice_get_read}
 use Rattle.std.proofs.lemmas.Bool.{cond-true, cond-false}
 use Rattle.cc_base.specs.Words.{join, byte_of}
 use Rattle.i386_machine.specs.declared.memory.Piece.{Piece}
-use Rattle.i386_machine.specs.Pieces.{region_of, HasNone, HasAt}
+use Rattle.i386_machine.specs.Pieces.{region_of, HasNone, HasAt, EndsWithin}
 use Rattle.i386_machine.specs.Regions.{fetch, Shape, Region, shape_of, shapes, spans, readable, writable, word_at, byte_at, store_word, store_byte, Disjoint}
 use Rattle.i386_machine.specs.Laws.{spans_facts}
 use Rattle.i386_machine.specs.At.{readable_one, readable_none, writable_none, writable_one, peek_one, peek_word_one, poke_one, poke_word_one, shapes-set, fetch_none, fetch_one}
@@ -84,11 +84,11 @@ module _ (ps : List Piece) (a : ℕ) where
         cond-true (writable (shapes (map region_of ps)) a 1) _ _ (writable_one a 1 (omega arith) (map region_of ps) i (region_of p) disjoint at (spans_at 1 h) ∙ can)
         ∙ ap (λ (x : List Region). Some x) (poke_one (map region_of ps) i (region_of p) a (byte_of w 0) disjoint at (spans_at 1 h) ∙ ap (λ (ys : List ℕ). set (map region_of ps) i (record (region_of p) { bytes = ys })) (sym bytes) ∙ ap (set (map region_of ps) i) (sym is) ∙ sym (map-set region_of ps i q))
 
-    pub still_disjoint : (n : ℕ) (q : Piece) (xs : List ℕ) → HasAt ps a n i → region_of q ≡ record (region_of p) { bytes = xs } → length xs ≡ length p.bytes.items → Disjoint (shapes (map region_of (set ps i q)))
-    still_disjoint n q xs h is long =
+    pub same_shapes : (n : ℕ) (q : Piece) (xs : List ℕ) → HasAt ps a n i → region_of q ≡ record (region_of p) { bytes = xs } → length xs ≡ length p.bytes.items → shapes (map region_of ps) ≡ shapes (map region_of (set ps i q))
+    same_shapes n q xs h is long =
         let at = region_at ps i p h.within e in
         let shape : shape_of (region_of q) ≡ shape_of (region_of p) = ap shape_of is ∙ ap (λ (k : ℕ). record { base = p.base; size = k; writable = p.writable; executable = p.executable }) long in
-        subst Disjoint (sym (ap shapes (map-set region_of ps i q) ∙ shapes-set (map region_of ps) i (region_of p) (region_of q) at shape)) disjoint
+        sym (ap shapes (map-set region_of ps i q) ∙ shapes-set (map region_of ps) i (region_of p) (region_of q) at shape)
 
 pub byte_inside : (ps : List Piece) (a i : ℕ) (p : Piece) → p ≡ get_or ps i p → (n : ℕ) → HasAt ps a (suc n) i → a - p.base < length p.bytes.items
 byte_inside ps a i p e n h =
@@ -99,3 +99,7 @@ byte_inside ps a i p e n h =
 pub shapes_push : (ps : List Piece) (p : Piece) → shapes (map region_of (ps ++ p ∷ [])) ≡ shapes (map region_of ps) ++ shape_of (region_of p) ∷ []
 shapes_push [] p = refl
 shapes_push (q ∷ ps) p = ap (λ (ss : List Shape). shape_of (region_of q) ∷ ss) (shapes_push ps p)
+
+pub ends_push : (s : Shape) (ss : List Shape) → EndsWithin ss → s.base + s.size ≤ 4294967296 → EndsWithin (ss ++ s ∷ [])
+ends_push s [] h k = (k, tt)
+ends_push s (t ∷ ss) h k = (h.0, ends_push s ss h.1 k)

@@ -31,6 +31,7 @@ HasPlace _ m = Unit {0}
 abbrev pub gone_to : ℕ → State → State
 gone_to next m = record m { eip = next }
 
+-- whether it takes further steps
 abbrev pub runs : Standing → Bool
 runs standing.Running = true
 runs (standing.Ended status) = false

@@ -1,14 +1,20 @@
 -- How the pieces of the code are regions.
-use Rattle.std.specs.Prelude.{◌≡◌, ℕ, ◌<◌, List, map, length, true, false, get_or}
-use Rattle.i386_machine.specs.Regions.{Region, shape_of, shapes, spans, Disjoint}
+use Rattle.std.specs.Prelude.{◌≡◌, ℕ, ◌+◌, ◌<◌, ◌≤◌, List, [], ◌∷◌, map, length, true, false, get_or}
+use Rattle.i386_machine.specs.Regions.{Region, Shape, shape_of, shapes, spans, Disjoint}
 use Rattle.i386_machine.specs.declared.memory.Piece.{Piece}
 use Rattle.i386_machine.specs.declared.memory.Memory.TheInside.{Inside}
 
 abbrev pub region_of : Piece → Region
 region_of p = record { base = p.base; bytes = p.bytes.items; writable = p.writable; executable = p.executable }
 
+-- each region ends at or below the end of the address space
+abbrev pub EndsWithin : List Shape → Type 0
+EndsWithin [] = Unit {0}
+EndsWithin (s ∷ ss) = (s.base + s.size ≤ 4294967296) × EndsWithin ss
+
 pub record IsMemory (s : Inside) : Type 0 where
   pub apart : Disjoint (shapes (map region_of s.pieces.items))
+  pub ends : EndsWithin (shapes (map region_of s.pieces.items))
   pub data_within : s.last_data < length s.pieces.items
   pub code_within : s.last_code < length s.pieces.items
 

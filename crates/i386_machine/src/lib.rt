@@ -6,6 +6,8 @@ mod instruction;
 mod machine;
 mod memory;
 mod running;
+#[cfg(test)]
+mod tests;
 
 pub use event::{Cause, Event, RunEnd, Standing};
 pub use instruction::Reg;

@@ -352,7 +352,7 @@ impl Machine {
         Event::Stuck(cause)
     }
 
-    // How a run that is over by now has ended.
+    // How the machine stands at the end of a run.
     pub(crate) fn end_now(&self) -> RunEnd
         ensures { StandsAt self.now result }
     {

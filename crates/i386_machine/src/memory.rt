@@ -145,6 +145,7 @@ impl Memory {
         executable: bool,
     ) -> Result<(), AllocError>
         requires whole { length bytes.now ≤ size }
+        requires ends { base + size ≤ 2 ^ 32 }
         requires apart { ApartFrom (record { base = base; size = size; writable = writable; executable = executable }) (shapes self.old) }
         ensures ok { OnOk result (self.new ≡ self.old ++ filled base bytes.now size writable executable ∷ []) }
         ensures shape { OnOk result (shapes self.new ≡ shapes self.old ++ record { base = base; size = size; writable = writable; executable = executable } ∷ []) }

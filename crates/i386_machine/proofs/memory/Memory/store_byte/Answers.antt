@@ -3,9 +3,9 @@ use Rattle.std.proofs.lemmas.List.{length-set}
 use Rattle.std.specs.Vec.{with_item}
 use Rattle.cc_base.specs.Words.{byte_of}
 use Rattle.i386_machine.specs.declared.memory.Piece.{Piece}
-use Rattle.i386_machine.specs.Pieces.{HasNone, HasAt}
-use Rattle.i386_machine.specs.Regions.{Region, store_byte}
-use Rattle.i386_machine.proofs.Accesses.{store_byte_none, store_byte_at, store_byte_refused, still_disjoint}
+use Rattle.i386_machine.specs.Pieces.{HasNone, HasAt, EndsWithin}
+use Rattle.i386_machine.specs.Regions.{Region, store_byte, Disjoint}
+use Rattle.i386_machine.proofs.Accesses.{store_byte_none, store_byte_at, store_byte_refused, same_shapes}
 use Rattle.i386_machine.proofs.memory.Memory.store_byte.Goals as goal
 
 pub returns-in_default-clause-stored : goal.returns-in_default-clause-stored
@@ -26,8 +26,10 @@ invariant_of-self-2 c =
     let p = c.index_mut-piece.result.now in
     let new : Piece = record p { bytes = with_item p.bytes (c.args.at - p.base) c.args.byte } in
     let xs : List ℕ = set p.bytes.items (c.args.at - p.base) c.args.byte in
+    let same = same_shapes c.self.inside.pieces.items c.args.at c.in-Some.index p c.self.invariant.apart c.index_mut-piece.ensures.value 1 new xs h refl (length-set p.bytes.items (c.args.at - p.base) c.args.byte) in
     record {
-      apart = still_disjoint c.self.inside.pieces.items c.args.at c.in-Some.index p c.self.invariant.apart c.index_mut-piece.ensures.value 1 new xs h refl (length-set p.bytes.items (c.args.at - p.base) c.args.byte);
+      apart = subst Disjoint same c.self.invariant.apart;
+      ends = subst EndsWithin same c.self.invariant.ends;
       data_within = let w = h.within in omega (arith, length-set c.self.inside.pieces.items c.in-Some.index new);
       code_within = let w = c.self.invariant.code_within in omega (arith, length-set c.self.inside.pieces.items c.in-Some.index new);
     }

@@ -3,9 +3,9 @@ use Rattle.std.proofs.lemmas.List.{with_items_is, length-set}
 use Rattle.std.specs.Vec.{with_items}
 use Rattle.cc_base.specs.Words.{byte_of}
 use Rattle.i386_machine.specs.declared.memory.Piece.{Piece}
-use Rattle.i386_machine.specs.Pieces.{region_of, HasNone, HasAt}
-use Rattle.i386_machine.specs.Regions.{Region, store_word}
-use Rattle.i386_machine.proofs.Accesses.{store_word_none, store_word_at, store_word_refused, still_disjoint}
+use Rattle.i386_machine.specs.Pieces.{region_of, HasNone, HasAt, EndsWithin}
+use Rattle.i386_machine.specs.Regions.{Region, store_word, Disjoint}
+use Rattle.i386_machine.proofs.Accesses.{store_word_none, store_word_at, store_word_refused, same_shapes}
 use Rattle.i386_machine.proofs.memory.Memory.store_word.Goals as goal
 
 pub returns-in_default-clause-stored : goal.returns-in_default-clause-stored
@@ -29,8 +29,10 @@ invariant_of-self-2 c =
     let long : length c.put_word.new.bytes ≡ p.bytes.len = c.put_word.auto.bytes ∙ c.deref_mut.ensures.len in
     let xs : (with_items p.bytes c.put_word.new.bytes).items ≡ c.put_word.new.bytes = with_items_is p.bytes c.put_word.new.bytes long in
     let is : region_of new ≡ record (region_of p) { bytes = c.put_word.new.bytes } = ap (λ (ys : List ℕ). record (region_of p) { bytes = ys }) xs in
+    let same = same_shapes c.self.inside.pieces.items c.args.at c.in-Some.index p c.self.invariant.apart c.index_mut-piece.ensures.value 4 new c.put_word.new.bytes h is (c.put_word.auto.bytes ∙ ap length bytes) in
     record {
-      apart = still_disjoint c.self.inside.pieces.items c.args.at c.in-Some.index p c.self.invariant.apart c.index_mut-piece.ensures.value 4 new c.put_word.new.bytes h is (c.put_word.auto.bytes ∙ ap length bytes);
+      apart = subst Disjoint same c.self.invariant.apart;
+      ends = subst EndsWithin same c.self.invariant.ends;
       data_within = let w = h.within in omega (arith, length-set c.self.inside.pieces.items c.in-Some.index new);
       code_within = let w = c.self.invariant.code_within in omega (arith, length-set c.self.inside.pieces.items c.in-Some.index new);
     }

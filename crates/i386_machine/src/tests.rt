@@ -1,0 +1,119 @@
+// Small machines that are run by hand. The bytes are as GNU as writes them.
+ghost use Rattle.std.specs.Prelude.{◌<◌, ◌≤◌, length};
+
+use crate::{Cause, Event, Machine, Reg, RunEnd, run};
+use cc_base::{Bytes, Calls, MemSink, MemSource};
+use std::alloc::{AllocError, Global};
+use std::test::Fail;
+
+const CODE: u32 = 0x0804_9000;
+
+// call 0x0804900E; mov ebx,eax; mov eax,1; int 0x80; and there mov eax,7; ret
+const ENDS_WITH_7: &[u8] = &[
+    0xe8, 9, 0, 0, 0, 0x89, 0xc3, 0xb8, 1, 0, 0, 0, 0xcd, 0x80, 0xb8, 7, 0, 0, 0, 0xc3,
+];
+
+// reads a byte to 0xBFFFFFF0, writes the byte that is there, and ends with the answer of the read
+const ECHO: &[u8] = &[
+    0xb8, 3, 0, 0, 0, 0xbb, 0, 0, 0, 0, 0xb9, 0xf0, 0xff, 0xff, 0xbf, 0xba, 1, 0, 0, 0, 0xcd, 0x80,
+    0x89, 0xc6, 0xb8, 4, 0, 0, 0, 0xbb, 1, 0, 0, 0, 0xcd, 0x80, 0xb8, 1, 0, 0, 0, 0x89, 0xf3, 0xcd,
+    0x80,
+];
+
+fn machine_of(alloc: Global, code: &[u8]) -> Result<Machine, AllocError>
+    requires some { 0 < length code.now }
+    requires short { length code.now ≤ 64 }
+{
+    let mut machine = Machine::new(alloc, CODE, 4096)?;
+    machine.add_region(CODE, code, code.len() as u32, false, true)?;
+    Ok(machine)
+}
+
+fn source_of(alloc: Global, bytes: &[u8], fails: &[u64]) -> Result<MemSource, AllocError> {
+    let fails = Calls::from_vec(Vec::from_slice(alloc, fails)?);
+    Ok(MemSource::new(Bytes::from_slice(alloc, bytes)?, fails))
+}
+
+fn sink_of(alloc: Global, fails: &[u64]) -> Result<MemSink, AllocError> {
+    let fails = Calls::from_vec(Vec::from_slice(alloc, fails)?);
+    Ok(MemSink::new(alloc, fails))
+}
+
+#[test]
+fn runs_end(rt: HostRuntime) -> Result<(), Fail> {
+    let alloc = rt.alloc();
+    let stuck = |eip: u32, cause: Cause| RunEnd::Stuck { eip, cause };
+    let table: [(&[u8], u32, RunEnd); 9] = [
+        (ENDS_WITH_7, 6, RunEnd::Ended(7)),
+        (ENDS_WITH_7, 5, RunEnd::Spent),
+        (ENDS_WITH_7, 0, RunEnd::Spent),
+        (&[0x90], 1, stuck(CODE, Cause::Decode)),
+        (&[0xb8, 1, 2, 3], 1, stuck(CODE, Cause::Decode)),
+        (&[0xb8, 1, 2, 3, 4], 2, stuck(CODE + 5, Cause::Fetch)),
+        // mov esp,0x1002; push eax
+        (
+            &[0xbc, 2, 0x10, 0, 0, 0x50],
+            9,
+            stuck(CODE + 5, Cause::Access { address: 0xffe }),
+        ),
+        // mov esp,0xBFFFFFFE; pop eax
+        (
+            &[0xbc, 0xfe, 0xff, 0xff, 0xbf, 0x58],
+            2,
+            stuck(
+                CODE + 5,
+                Cause::Access {
+                    address: 0xbfff_fffe,
+                },
+            ),
+        ),
+        (&[0xcd, 0x81], 1, stuck(CODE, Cause::System)),
+    ];
+    for (code, steps, want) in table {
+        assert!(rt; !code.is_empty() && code.len() <= 64);
+        let mut machine = machine_of(alloc, code)?;
+        let end = run(
+            &mut machine,
+            steps,
+            &mut source_of(alloc, &[], &[])?,
+            &mut sink_of(alloc, &[])?,
+        );
+        assert_eq!(rt; end, want, "{code:?}");
+    }
+    Ok(())
+}
+
+#[test]
+fn bytes_come_and_go(rt: HostRuntime) -> Result<(), Fail> {
+    let alloc = rt.alloc();
+    let table: [(&[u8], &[u8], u8); 2] = [(b"Az", b"A", 1), (b"", b"\0", 0)];
+    for (given, want, status) in table {
+        let mut machine = machine_of(alloc, ECHO)?;
+        let mut input = source_of(alloc, given, &[1])?;
+        let mut output = sink_of(alloc, &[1])?;
+        let read = run(&mut machine, 12, &mut input, &mut output);
+        assert_eq!(rt; read, RunEnd::Read);
+        assert_eq!(rt; machine.eip(), CODE + 20);
+        assert!(rt; machine.wants_byte());
+        let write = run(&mut machine, 12, &mut input, &mut output);
+        assert_eq!(rt; write, RunEnd::Write);
+        assert_eq!(rt; machine.register(Reg::Esi), u32::from(status));
+        let end = run(&mut machine, 4, &mut input, &mut output);
+        assert_eq!(rt; end, RunEnd::Ended(status));
+        assert!(rt; output.bytes() == want);
+    }
+    Ok(())
+}
+
+#[test]
+fn a_call_pushes_where_it_returns(rt: HostRuntime) -> Result<(), Fail> {
+    let mut machine = machine_of(rt.alloc(), ENDS_WITH_7)?;
+    assert!(rt; !machine.wants_byte());
+    assert_eq!(rt; machine.step(None), Event::On);
+    assert_eq!(rt; machine.eip(), CODE + 14);
+    assert_eq!(rt; machine.register(Reg::Esp), 0xbfff_ffec);
+    assert_eq!(rt; machine.byte_at(0xbfff_ffec), Some(5));
+    assert_eq!(rt; machine.byte_at(0xbfff_ffef), Some(8));
+    assert_eq!(rt; machine.byte_at(0xc000_0000), None);
+    Ok(())
+}
