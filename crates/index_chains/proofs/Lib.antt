@@ -1,0 +1,6 @@
+pub mod Walks
+pub mod Links
+pub mod Front
+pub mod Removal
+pub mod Views
+pub mod Calls

@@ -1,0 +1,8 @@
+use Rattle.std.proofs.Common.{◌∙◌}
+use Rattle.index_chains.proofs.Calls.{first_shows}
+use Rattle.index_chains.proofs.chains.Chains.first.Goals as goal
+
+pub returns-clause-first : goal.returns-clause-first
+returns-clause-first c =
+    c.node_at.ensures
+    ∙ first_shows _ _ _ _ c.self.view_is c.self.invariant c.args.head _ c.requires c.index.ensures
