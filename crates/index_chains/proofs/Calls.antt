@@ -1,9 +1,10 @@
 -- What each call does to the links, said of the value that contracts see.
-use Rattle.std.proofs.Common.{◌≡◌, ◌≢◌, ℕ, ◌+◌, ◌^◌, ◌<◌, ◌↔◌, List, [], length, get_or, set, replicate, slice_get, Some, None, not, nat_eq, nat_lt, if◌then◌else◌, IsTrue, sym, ap, subst, ◌∙◌, arith, ne_eqb}
+use Rattle.std.proofs.Common.{◌≡◌, ◌≢◌, ℕ, ◌+◌, ◌^◌, ◌<◌, ◌↔◌, List, [], length, get_or, set, replicate, slice_get, Option, Some, None, IfSome, not, nat_eq, nat_lt, if◌then◌else◌, IsTrue, refl, sym, ap, subst, ◌∙◌, arith, ne_eqb}
 use Rattle.std.proofs.lemmas.Bool.{eqb-false, not-true, not_from_false}
 use Rattle.std.proofs.lemmas.List.{get_or_read}
-use Rattle.index_chains.specs.Lists.{Lists, list_at, Stands, IsLinked, IsDisjoint, with_front, without}
+use Rattle.index_chains.specs.Lists.{Lists, list_at, Stands, IsLinked, IsDisjoint, with_front, without, LeavesOthers}
 use Rattle.index_chains.specs.Rings.{Keeps, rings}
+use Rattle.index_chains.proofs.Members.{linked-put_first, linked_still, linked_already, linked_left, linked_before, linked-replicate}
 use Rattle.index_chains.proofs.Front.{with_front-Keeps}
 use Rattle.index_chains.proofs.Removal.{without-Keeps}
 use Rattle.index_chains.proofs.Views.{rings-Keeps, itself, first_is, next_is, not_lone, disjoint, lone-Keeps}
@@ -85,3 +86,29 @@ module _ (next prev : List ℕ) (nodes : ℕ) (value : Lists) (is : view next no
 
 pub new_shows : (next prev : List ℕ) (heads nodes : ℕ) → nodes < 2 ^ 32 → length next ≡ nodes + heads → length prev ≡ nodes + heads → ((c : ℕ) → c < nodes + heads → get_or next c 0 ≡ c) → ((c : ℕ) → c < nodes + heads → get_or prev c 0 ≡ c) → Shows next prev nodes (record { lists = replicate heads []; nodes = nodes })
 new_shows next prev heads nodes small long long' self self' = shows next prev nodes (replicate heads []) (lone-Keeps next prev heads nodes small long long' self self')
+
+-- which nodes stand in lists after a call
+module _ (old new : Lists) (node : ℕ) where
+  pub front_linked : (head : ℕ) → new ≡ with_front old head node → head < length old.lists → IsLinked new.lists node
+  front_linked head e head_in = subst (λ (v : Lists). IsLinked v.lists node) (sym e) (linked-put_first old.lists head node head_in)
+
+  pub front_others : (head : ℕ) → new ≡ with_front old head node → head < length old.lists → LeavesOthers old new node
+  front_others head e head_in =
+      subst (λ (v : Lists). LeavesOthers old v node) (sym e)
+      (λ other ne. (linked_already old.lists head node head_in other ne, linked_still old.lists head node head_in other))
+
+  pub removal_unlinked : new ≡ without old node → IsLinked new.lists node → ⊥
+  removal_unlinked e = subst (λ (v : Lists). IsLinked v.lists node → ⊥) (sym e) (λ linked. (linked_before node old.lists node linked).0 refl)
+
+  pub removal_others : new ≡ without old node → LeavesOthers old new node
+  removal_others e =
+      subst (λ (v : Lists). LeavesOthers old v node) (sym e)
+      (λ other ne. (λ linked. (linked_before node old.lists other linked).1, linked_left node old.lists other ne))
+
+pub new_unlinked : (heads nodes : ℕ) (made : Lists) → made ≡ record { lists = replicate heads []; nodes = nodes } → (node : ℕ) → IsLinked made.lists node → ⊥
+new_unlinked heads nodes made e = subst (λ (v : Lists). (node : ℕ) → IsLinked v.lists node → ⊥) (sym e) (linked-replicate heads)
+
+-- what was read from a place stands in a list
+pub read_linked : (lists : List (List ℕ)) (head place : ℕ) (found : Option ℕ) → found ≡ slice_get (list_at lists head) place → IfSome found (IsLinked lists)
+read_linked lists head place None e = tt
+read_linked lists head place (Some node) e = (head, place, sym e)

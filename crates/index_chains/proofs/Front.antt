@@ -1,14 +1,15 @@
 -- The links after a node was put first in a list.
-use Rattle.std.proofs.Common.{◌≡◌, ◌≢◌, ℕ, suc, ◌+◌, ◌<◌, List, [], ◌∷◌, length, get_or, set, slice_get, slice_set, Some, sym, ap, subst, ◌∙◌, inl, inr, arith, length-set, get_or-set_same, get_or-set_other}
+use Rattle.std.proofs.Common.{◌≡◌, ◌≢◌, ℕ, ◌+◌, ◌<◌, List, ◌∷◌, length, get_or, set, sym, ap, subst, ◌∙◌, inl, inr, arith, length-set}
 use Rattle.std.proofs.lemmas.Bool.{cases_eq}
 use Rattle.index_chains.specs.Lists.{list_at, Stands, IsLinked}
 use Rattle.index_chains.specs.Rings.{Leads, Keeps}
 use Rattle.index_chains.proofs.Walks.{behind}
+use Rattle.index_chains.proofs.Members.{put_first, list_at-same, list_at-other, linked-put_first, linked_still}
 use Rattle.index_chains.proofs.Links.{Changed, changed, flipped, still_leads, there_between, still_in}
 
 module _ (next prev : List ℕ) (nodes : ℕ) (lists : List (List ℕ)) (head node first : ℕ) (k : Keeps next prev nodes lists) (in_heads : head < length lists) (in_nodes : node < nodes) (unlinked : IsLinked lists node → ⊥) (leads : get_or next (nodes + head) 0 ≡ first) where
   abbrev lists' : List (List ℕ)
-  lists' = slice_set lists head (node ∷ list_at lists head)
+  lists' = put_first lists head node in_heads
 
   lone : get_or next node 0 ≡ node
   lone = elim (cases_eq (get_or next node 0) node) [ inl e ↦ e | inr ne ↦ absurd (unlinked (k.alone node in_nodes ne)) ]
@@ -20,14 +21,6 @@ module _ (next prev : List ℕ) (nodes : ℕ) (lists : List (List ℕ)) (head no
       let l = lone in
       let same : nodes + head ≡ node = cc in
       omega arith
-
-  -- where a node that stood in a list stands now
-  stands_now : (head' place other : ℕ) → Stands lists head' place other → IsLinked lists' other
-  stands_now head' place other at =
-      elim (cases_eq head' head) [
-        | inl e ↦ (head, suc place, ap (λ (xs : List ℕ). slice_get xs (suc place)) (get_or-set_same lists head (node ∷ list_at lists head) [] in_heads) ∙ subst (λ (h : ℕ). Stands lists h place other) e at)
-        | inr ne ↦ (head', place, ap (λ (xs : List ℕ). slice_get xs place) (get_or-set_other lists head head' (node ∷ list_at lists head) [] ne) ∙ at)
-      ]
 
   module _ (next' prev' : List ℕ) (n : Changed next next' node first (nodes + head) node) (p : Changed prev prev' first node node (nodes + head)) where
     -- a node of the old lists keeps its link
@@ -42,10 +35,10 @@ module _ (next prev : List ℕ) (nodes : ℕ) (lists : List (List ℕ)) (head no
         elim (cases_eq head' head) [
           | inl e ↦
               subst (λ (h : ℕ). Leads next' nodes (nodes + h) (list_at lists' h) (nodes + h)) (sym e)
-              (subst (λ (xs : List ℕ). Leads next' nodes (nodes + head) xs (nodes + head)) (sym (get_or-set_same lists head (node ∷ list_at lists head) [] in_heads))
+              (subst (λ (xs : List ℕ). Leads next' nodes (nodes + head) xs (nodes + head)) (sym (list_at-same lists head in_heads (node ∷ list_at lists head)))
               (n.two, in_nodes, still_leads next next' nodes (nodes + head) node (list_at lists head) (nodes + head) (k.closed head in_heads) (n.one ∙ sym leads) (λ place x. same_link head place x in_heads)))
           | inr ne ↦
-              subst (λ (xs : List ℕ). Leads next' nodes (nodes + head') xs (nodes + head')) (sym (get_or-set_other lists head head' (node ∷ list_at lists head) [] ne))
+              subst (λ (xs : List ℕ). Leads next' nodes (nodes + head') xs (nodes + head')) (sym (list_at-other lists head in_heads (node ∷ list_at lists head) head' ne))
               (still_leads next next' nodes (nodes + head') (nodes + head') (list_at lists head') (nodes + head') (k.closed head' below)
               (n.other (nodes + head') (omega arith) (omega arith))
               (λ place x. same_link head' place x below))
@@ -54,11 +47,10 @@ module _ (next prev : List ℕ) (nodes : ℕ) (lists : List (List ℕ)) (head no
     alone' : (other : ℕ) → other < nodes → get_or next' other 0 ≢ other → IsLinked lists' other
     alone' other below ne =
         elim (cases_eq other node) [
-          | inl e ↦ (head, 0, ap (λ (xs : List ℕ). slice_get xs 0) (get_or-set_same lists head (node ∷ list_at lists head) [] in_heads) ∙ ap (λ (y : ℕ). Some y) (sym e))
+          | inl e ↦ subst (λ (y : ℕ). IsLinked lists' y) (sym e) (linked-put_first lists head node in_heads)
           | inr apart ↦
               let s : get_or next' other 0 ≡ get_or next other 0 = n.other other apart (omega arith) in
-              let was = k.alone other below (λ e. ne (s ∙ e)) in
-              stands_now was.0 was.1 other was.2
+              linked_still lists head node in_heads other (k.alone other below (λ e. ne (s ∙ e)))
         ]
 
     front : Keeps next' prev' nodes lists'

@@ -1,4 +1,5 @@
 pub mod Walks
+pub mod Members
 pub mod Links
 pub mod Front
 pub mod Removal

@@ -1,38 +1,16 @@
 -- The links after a node was taken out of its list.
-use Rattle.std.proofs.Common.{◌≡◌, ◌≢◌, ℕ, suc, zero, ◌+◌, ◌<◌, List, [], ◌∷◌, length, get_or, set, map, filter, not, ◌==◌, slice_get, Some, sym, ap, subst, ◌∙◌, inl, inr, arith, eq-eqb, ne_eqb}
-use Rattle.std.proofs.lemmas.Bool.{cases_eq, cond-true, cond-false, not_from_true, not_from_false}
+use Rattle.std.proofs.Common.{◌≡◌, ◌≢◌, ℕ, ◌+◌, ◌<◌, List, [], ◌∷◌, length, get_or, set, sym, ap, subst, ◌∙◌, inl, inr, arith}
+use Rattle.std.proofs.lemmas.Bool.{cases_eq}
 use Rattle.std.proofs.lemmas.List.{get_or-map, length-map}
-use Rattle.index_chains.specs.Lists.{list_at, Stands, IsLinked}
+use Rattle.index_chains.specs.Lists.{list_at, IsLinked}
 use Rattle.index_chains.specs.Rings.{Leads, Keeps}
-use Rattle.index_chains.proofs.Walks.{behind, stuck, in_heads}
+use Rattle.index_chains.proofs.Walks.{behind, stuck}
+use Rattle.index_chains.proofs.Members.{in_heads, rest_of, rest_of-kept, rest_of-gone, rests, linked_left}
 use Rattle.index_chains.proofs.Links.{Changed, changed, there_without, still_in}
-
-module _ (node : ℕ) where
-  abbrev rest_of : List ℕ → List ℕ
-  rest_of xs = filter (λ other. not (other == node)) xs
-
-  kept : (x : ℕ) (xs : List ℕ) → x ≢ node → rest_of (x ∷ xs) ≡ x ∷ rest_of xs
-  kept x xs ne = cond-true _ _ _ (not_from_false _ (ne_eqb x node ne))
-
-  gone : (x : ℕ) (xs : List ℕ) → x ≡ node → rest_of (x ∷ xs) ≡ rest_of xs
-  gone x xs e = cond-false _ _ _ (not_from_true _ (eq-eqb x node e))
-
-  -- another node stands somewhere in what is left
-  place_left : (xs : List ℕ) (place other : ℕ) → slice_get xs place ≡ Some other → other ≢ node → (place' : ℕ) × (slice_get (rest_of xs) place' ≡ Some other)
-  place_left [] place other at apart = cc
-  place_left (x ∷ xs) zero other at apart =
-      let e : x ≡ other = cc in
-      (0, ap (λ (ys : List ℕ). slice_get ys 0) (kept x xs (λ d. apart (sym e ∙ d))) ∙ at)
-  place_left (x ∷ xs) (suc place) other at apart =
-      let left = place_left xs place other at apart in
-      elim (cases_eq x node) [
-        | inl e ↦ (left.0, ap (λ (ys : List ℕ). slice_get ys left.0) (gone x xs e) ∙ left.1)
-        | inr ne ↦ (suc left.0, ap (λ (ys : List ℕ). slice_get ys (suc left.0)) (kept x xs ne) ∙ left.1)
-      ]
 
 module _ (next prev : List ℕ) (nodes : ℕ) (lists : List (List ℕ)) (node before after : ℕ) (k : Keeps next prev nodes lists) (in_nodes : node < nodes) (linked : IsLinked lists node) (back : get_or prev node 0 ≡ before) (leads : get_or next node 0 ≡ after) where
   abbrev lists' : List (List ℕ)
-  lists' = map (rest_of node) lists
+  lists' = rests node lists
 
   in_node : node < length next
   in_node = omega (arith, k.cells)
@@ -71,9 +49,9 @@ module _ (next prev : List ℕ) (nodes : ℕ) (lists : List (List ℕ)) (node be
           | inl e ↦
               let b = only_before from below (way.0 ∙ e) in
               let o = n.one in
-              subst (λ (ys : List ℕ). Leads next' nodes from ys to) (sym (gone node x [] e)) cc
+              subst (λ (ys : List ℕ). Leads next' nodes from ys to) (sym (rest_of-gone node x [] e)) cc
           | inr ne_x ↦
-              subst (λ (ys : List ℕ). Leads next' nodes from ys to) (sym (kept node x [] ne_x))
+              subst (λ (ys : List ℕ). Leads next' nodes from ys to) (sym (rest_of-kept node x [] ne_x))
               (n.other from (λ e. ne_x cc) ne ∙ way.0, way.1, past x [] to way.2 ne_x ne_to (omega (arith, way.1, k.cells)))
         ]
     past from (x ∷ y ∷ ys) to way ne ne_to below =
@@ -83,10 +61,10 @@ module _ (next prev : List ℕ) (nodes : ℕ) (lists : List (List ℕ)) (node be
               let b = only_before from below (way.0 ∙ e) in
               let o = n.one in
               let ne_y : y ≢ node = λ d. not_lone cc in
-              subst (λ (zs : List ℕ). Leads next' nodes from zs to) (sym (gone node x (y ∷ ys) e ∙ kept node y ys ne_y))
+              subst (λ (zs : List ℕ). Leads next' nodes from zs to) (sym (rest_of-gone node x (y ∷ ys) e ∙ rest_of-kept node y ys ne_y))
               (cc, way.2.1, past y ys to way.2.2 ne_y ne_to (omega (arith, way.2.1, k.cells)))
           | inr ne_x ↦
-              subst (λ (zs : List ℕ). Leads next' nodes from zs to) (sym (kept node x (y ∷ ys) ne_x))
+              subst (λ (zs : List ℕ). Leads next' nodes from zs to) (sym (rest_of-kept node x (y ∷ ys) ne_x))
               (n.other from (λ e. ne_x cc) ne ∙ way.0, way.1, past x (y ∷ ys) to way.2 ne_x ne_to (omega (arith, way.1, k.cells)))
         ]
 
@@ -95,16 +73,10 @@ module _ (next prev : List ℕ) (nodes : ℕ) (lists : List (List ℕ)) (node be
         subst (λ (xs : List ℕ). Leads next' nodes (nodes + head) xs (nodes + head)) (sym (get_or-map (rest_of node) lists head [] [] below))
         (past (nodes + head) (list_at lists head) (nodes + head) (k.closed head below) (omega arith) (omega arith) (omega (arith, k.cells)))
 
-    stands_now : (head place other : ℕ) → Stands lists head place other → other ≢ node → IsLinked lists' other
-    stands_now head place other at apart =
-        let left = place_left node (list_at lists head) place other at apart in
-        (head, left.0, ap (λ (xs : List ℕ). slice_get xs left.0) (get_or-map (rest_of node) lists head [] [] (in_heads lists head place other at)) ∙ left.1)
-
     alone' : (other : ℕ) → other < nodes → get_or next' other 0 ≢ other → IsLinked lists' other
     alone' other below ne =
         let apart : other ≢ node = λ e. ne (let t = n.two in cc) in
-        let was = k.alone other below (λ e. still other ne apart e) in
-        stands_now was.0 was.1 other was.2 apart
+        linked_left node lists other apart (k.alone other below (λ e. still other ne apart e))
       where
         still : (other : ℕ) → get_or next' other 0 ≢ other → other ≢ node → get_or next other 0 ≡ other → ⊥
         still other ne apart e =

@@ -4,7 +4,8 @@ use Rattle.std.proofs.lemmas.List.{get_or-replicate, length-replicate}
 use Rattle.std.proofs.lemmas.Option.{slice_get_within}
 use Rattle.index_chains.specs.Lists.{list_at, Stands, IsLinked, IsDisjoint}
 use Rattle.index_chains.specs.Rings.{Leads, Keeps, rings}
-use Rattle.index_chains.proofs.Walks.{behind, stuck, in_heads, same_way, step-Leads, slice_get-drop, rings-Leads}
+use Rattle.index_chains.proofs.Walks.{behind, stuck, same_way, step-Leads, slice_get-drop, rings-Leads}
+use Rattle.index_chains.proofs.Members.{in_heads}
 
 module _ (next prev : List ℕ) (nodes : ℕ) (lists : List (List ℕ)) (k : Keeps next prev nodes lists) where
   -- the lists are what the walks find

@@ -5,7 +5,7 @@ use Rattle.std.proofs.lemmas.Bool.{cond-true, cond-false, or_cases}
 use Rattle.std.proofs.lemmas.Option.{slice_get_within}
 use Rattle.std.proofs.lemmas.List.FromFn.{fill_by_all}
 use Rattle.std.proofs.lemmas.Map.Steps.{length-le_from_distinct_below}
-use Rattle.index_chains.specs.Lists.{list_at, Stands}
+use Rattle.index_chains.specs.Lists.{list_at}
 use Rattle.index_chains.specs.Rings.{walk, ring, rings, Leads}
 
 module _ (next : List ℕ) (nodes : ℕ) where
@@ -89,9 +89,3 @@ pub slice_get-drop : (xs : List ℕ) (place : ℕ) → slice_get (drop (suc plac
 slice_get-drop [] place = refl
 slice_get-drop (x ∷ xs) zero = refl
 slice_get-drop (x ∷ xs) (suc place) = slice_get-drop xs place
-
--- only heads have nodes
-pub in_heads : (lists : List (List ℕ)) (head place node : ℕ) → Stands lists head place node → head < length lists
-in_heads [] head place node at = cc
-in_heads (xs ∷ lists) zero place node at = omega arith
-in_heads (xs ∷ lists) (suc head) place node at = omega (arith, in_heads lists head place node at)

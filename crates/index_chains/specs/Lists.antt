@@ -1,5 +1,5 @@
 -- Lists of node numbers, and what is done to them.
-use Rattle.std.specs.Prelude.{◌≡◌, ℕ, ◌<◌, ◌==◌, not, List, [], ◌∷◌, map, filter, slice_get, slice_index_or, slice_set, Some}
+use Rattle.std.specs.Prelude.{◌≡◌, ◌≢◌, ◌↔◌, ℕ, ◌<◌, ◌==◌, not, List, [], ◌∷◌, map, filter, slice_get, slice_index_or, slice_set, Some}
 
 -- what contracts see: the list of each head, from its first node on, and how many nodes there are
 pub record Lists : Type 0 where
@@ -30,3 +30,7 @@ with_front old head node = record old { lists = slice_set old.lists head (node �
 -- without the node
 abbrev pub without : Lists → ℕ → Lists
 without old node = record old { lists = map (filter (λ other. not (other == node))) old.lists }
+
+-- each other node stands in some list just if it did before
+abbrev pub LeavesOthers : Lists → Lists → ℕ → Type 0
+LeavesOthers old new node = (other : ℕ) → other ≢ node → (IsLinked new.lists other ↔ IsLinked old.lists other)

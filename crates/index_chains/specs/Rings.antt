@@ -22,7 +22,8 @@ abbrev pub Leads : List ℕ → ℕ → ℕ → List ℕ → ℕ → Type 0
 Leads next nodes from [] to = slice_index next from ≡ to
 Leads next nodes from (node ∷ rest) to = (slice_index next from ≡ node) × (node < nodes) × Leads next nodes node rest to
 
--- the links keep these lists
+-- the links keep these lists: the two links of a cell undo each other, the ring of each head goes through its list, and a node that
+-- is not linked to itself stands in a list
 pub record Keeps (next prev : List ℕ) (nodes : ℕ) (lists : List (List ℕ)) : Type 0 where
   pub small : nodes < 2 ^ 32
   pub cells : length next ≡ nodes + length lists

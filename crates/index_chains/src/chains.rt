@@ -1,6 +1,6 @@
 // Lists that are linked by index.
 ghost use Rattle.std.specs.Prelude.{◌≡◌, ℕ, ◌<◌, ◌+◌, ◌↔◌, [], length, replicate, slice_get, slice_index, nat_lt, if◌then◌else◌, Some, None, IfOk, IfSome, IsTrue};
-ghost use Rattle.index_chains.specs.Lists.{list_at, Stands, IsLinked, IsDisjoint, with_front, without};
+ghost use Rattle.index_chains.specs.Lists.{list_at, Stands, IsLinked, IsDisjoint, with_front, without, LeavesOthers};
 
 use std::alloc::{AllocError, Global};
 use std::marker::Model;
@@ -40,7 +40,8 @@ fn lone_cells(alloc: Global, cells: usize) -> Result<Vec<usize>, AllocError>
 impl Chains {
     /// Empty lists for so many heads, and so many nodes that stand in none.
     pub fn new(alloc: Global, heads: u32, nodes: u32) -> Result<Chains, AllocError>
-        ensures { IfOk result (λ made. made ≡ record { lists = replicate heads []; nodes = nodes }) }
+        ensures empty { IfOk result (λ made. made ≡ record { lists = replicate heads []; nodes = nodes }) }
+        ensures unlinked { IfOk result (λ made. (node : ℕ) → ¬ IsLinked made.lists node) }
     {
         let nodes = nodes as usize;
         let cells = nodes + heads as usize;
@@ -65,7 +66,9 @@ impl Chains {
         requires head_in_range { head < length self.old.lists }
         requires node_in_range { node < self.old.nodes }
         requires unlinked { ¬ IsLinked self.old.lists node }
-        ensures { self.new ≡ with_front self.old head node }
+        ensures front { self.new ≡ with_front self.old head node }
+        ensures linked { IsLinked self.new.lists node }
+        ensures others { LeavesOthers self.old self.new node }
     {
         let head = self.nodes + head as usize;
         let node = node as usize;
@@ -80,7 +83,9 @@ impl Chains {
     pub fn unlink(&mut self, node: u32)
         requires node_in_range { node < self.old.nodes }
         requires linked { IsLinked self.old.lists node }
-        ensures { self.new ≡ without self.old node }
+        ensures taken { self.new ≡ without self.old node }
+        ensures unlinked { ¬ IsLinked self.new.lists node }
+        ensures others { LeavesOthers self.old self.new node }
     {
         let node = node as usize;
         let before = self.prev[node];
@@ -95,6 +100,7 @@ impl Chains {
     pub fn first(&self, head: u32) -> Option<u32>
         requires { head < length self.now.lists }
         ensures first { result ≡ slice_get (list_at self.now.lists head) 0 }
+        ensures linked { IfSome result (IsLinked self.now.lists) }
         ensures in_range { IfSome result (λ node. node < self.now.nodes) }
     {
         self.node_at(self.next[self.nodes + head as usize])
@@ -103,9 +109,10 @@ impl Chains {
     /// The node behind this one in its list, or nothing where this one is the last or stands in no list.
     pub fn next(&self, node: u32) -> Option<u32>
         requires { node < self.now.nodes }
-        ensures linked { (head place : ℕ) → Stands self.now.lists head place node →
+        ensures behind { (head place : ℕ) → Stands self.now.lists head place node →
             result ≡ slice_get (list_at self.now.lists head) (place + 1) }
         ensures unlinked { ¬ IsLinked self.now.lists node → result ≡ None }
+        ensures linked { IfSome result (IsLinked self.now.lists) }
         ensures in_range { IfSome result (λ after. after < self.now.nodes) }
     {
         let cell = node as usize;

@@ -14,6 +14,20 @@ const NODES: u32 = 4;
 enum Move {
     Push(u32, u32),
     Unlink(u32),
+    First(u32, u32),
+}
+
+// Moves the first node of a list to the front of another.
+fn move_first(chains: &mut Chains, from: u32, to: u32)
+    requires from_in_range { from < length chains.old.lists }
+    requires to_in_range { to < length chains.old.lists }
+    ensures heads { length chains.new.lists ≡ length chains.old.lists }
+    ensures nodes { chains.new.nodes ≡ chains.old.nodes }
+{
+    if let Some(node) = chains.first(from) {
+        chains.unlink(node);
+        chains.push_front(to, node);
+    }
 }
 
 fn make(rt: &impl Abort, chains: &mut Chains, step: Move)
@@ -34,6 +48,11 @@ fn make(rt: &impl Abort, chains: &mut Chains, step: Move)
             assert!(rt; chains.is_linked(node));
             chains.unlink(node);
             assert_eq!(rt; chains.next(node), None);
+        }
+        Move::First(from, to) => {
+            assert!(rt; from < HEADS);
+            assert!(rt; to < HEADS);
+            move_first(chains, from, to);
         }
     }
 }
@@ -66,6 +85,8 @@ fn moves_leave_the_lists(rt: HostRuntime) -> Result<(), Fail> {
         (Move::Unlink(2), [1].as_slice(), [3].as_slice()),
         (Move::Unlink(1), [].as_slice(), [3].as_slice()),
         (Move::Push(0, 0), [0].as_slice(), [3].as_slice()),
+        (Move::First(1, 0), [3, 0].as_slice(), [].as_slice()),
+        (Move::First(0, 1), [0].as_slice(), [3].as_slice()),
     ];
     let mut chains = Chains::new(rt.alloc(), HEADS, NODES)?;
     for (step, zero, one) in moves {
