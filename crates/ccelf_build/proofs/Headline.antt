@@ -81,9 +81,21 @@ at_first puts status input s small =
     let w : Started text (add32 (134516736 + before) 5) (rest_code puts status ++ tail) input [] (run_of (machine_at text (134516736 + before) (words 0 0 0 0 3221225456 0 0 0) (zeros 1048576)) input []) =
     start text (zeros 1048576) before (rest_code puts status ++ tail) input [] s.text s.padded (length-zeros 1048576) at_call at_main in
     record {
-      e = w.next; eax = 0; ecx = 0; edx = 0; ebx = 0; ebp = 0; esi = 0; edi = 0;
-      bytes = w.bytes; input = input;
-      here = w.here; whole = w.whole; slot = w.slot; small = small; is = w.runs;
+      e = w.next;
+      eax = 0;
+      ecx = 0;
+      edx = 0;
+      ebx = 0;
+      ebp = 0;
+      esi = 0;
+      edi = 0;
+      bytes = w.bytes;
+      input = input;
+      here = w.here;
+      whole = w.whole;
+      slot = w.slot;
+      small = small;
+      is = w.runs;
     }
 
 -- behind the call stands the code that ends the run

@@ -60,7 +60,7 @@ module _ (m : machine.State) (puts : List ℕ) (status : ℕ) (agrees : Agrees (
   never_asks n e =
       let r = after m [] n in
       asked_acts (slice_get r.left 0) r.machine (back_only r.acts (acts_of (stepped Asks r.machine (slice_get r.left 0)).event)
-          (subst (λ (d : Doing). OnlyGave (r.acts ++ acts_of (stepped d r.machine (slice_get r.left 0)).event)) e (emits_only (suc n))))
+      (subst (λ (d : Doing). OnlyGave (r.acts ++ acts_of (stepped d r.machine (slice_get r.left 0)).event)) e (emits_only (suc n))))
 
   -- what is not asked for changes nothing
   same_step : (d : Doing) (x : machine.State) (a b : Option ℕ) → d ≢ Asks → stepped d x a ≡ stepped d x b

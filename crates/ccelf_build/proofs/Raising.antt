@@ -69,16 +69,22 @@ run_raises bytes n old new r =
 runs_honest : (steps : ℕ) (bytes : List ℕ) (old new : Outside) (e : Answer) → Runs steps bytes old e new → Tells old e new × (e ≡ answer.Words → ⊥)
 runs_honest steps bytes old new (answer.Ended status) h = (run_raises bytes steps old new h.0, λ e. cc)
 runs_honest steps bytes old new answer.Spent h = (run_raises bytes steps old new h.0, λ e. cc)
-runs_honest steps bytes old new answer.ReadFault h =
-    (subst (λ c. Raises c answer.ReadFault (counts new)) (run_raises bytes h.count old h.until h.ran)
-        (inr (h.fault.0.rose, ap counts h.fault.1 ∙ ap (λ (i : SourceSeen). counts (record h.until { input = i })) h.fault.0.others)), λ e. cc)
-runs_honest steps bytes old new answer.WriteFault h =
-    (subst (λ c. Raises c answer.WriteFault (counts new)) (run_raises bytes h.count old h.until h.ran)
-        (inr (h.fault.0.rose, ap counts h.fault.1 ∙ ap (λ (o : SinkSeen). counts (record h.until { output = o })) h.fault.0.others)), λ e. cc)
+runs_honest steps bytes old new answer.ReadFault h = (
+  subst (λ c. Raises c answer.ReadFault (counts new)) (run_raises bytes h.count old h.until h.ran)
+      (inr (h.fault.0.rose, ap counts h.fault.1 ∙ ap (λ (i : SourceSeen). counts (record h.until { input = i })) h.fault.0.others)),
+  λ e. cc,
+)
+runs_honest steps bytes old new answer.WriteFault h = (
+  subst (λ c. Raises c answer.WriteFault (counts new)) (run_raises bytes h.count old h.until h.ran)
+      (inr (h.fault.0.rose, ap counts h.fault.1 ∙ ap (λ (o : SinkSeen). counts (record h.until { output = o })) h.fault.0.others)),
+  λ e. cc,
+)
 runs_honest steps bytes old new answer.Memory (inl h) = (inl (ap counts h), λ e. cc)
-runs_honest steps bytes old new answer.Memory (inr h) =
-    (subst (λ c. Raises c answer.Memory (counts new)) (run_raises bytes h.count old h.until h.ran)
-        (inr (h.fault.0.rose, ap counts h.fault.1 ∙ ap (λ (o : SinkSeen). counts (record h.until { output = o })) h.fault.0.others)), λ e. cc)
+runs_honest steps bytes old new answer.Memory (inr h) = (
+  subst (λ c. Raises c answer.Memory (counts new)) (run_raises bytes h.count old h.until h.ran)
+      (inr (h.fault.0.rose, ap counts h.fault.1 ∙ ap (λ (o : SinkSeen). counts (record h.until { output = o })) h.fault.0.others)),
+  λ e. cc,
+)
 runs_honest steps bytes old new _ h = absurd h
 
 pub exec_honest : (steps : ℕ) (image unit : List ℕ) (old new : Outside) (e : Answer) → exec_does steps image unit old e new → Tells old e new × (e ≡ answer.Words → ⊥)

@@ -13,7 +13,7 @@ use Rattle.i386_machine.specs.Machine as machine
 use Rattle.i386_machine.specs.Step.{doing, doing_at, step, stepped, Sticks, Ends}
 use Rattle.i386_machine.specs.Runs.{Run, advance, after, begun, seen_of, outcome_of, acts_of}
 use Rattle.pass_core.specs.Refines.{Sound, Refines}
-use Rattle.pass_core.specs.Semantics.{Semantics, Steady, iterate, Met, Simulates} 
+use Rattle.pass_core.specs.Semantics.{Semantics, Steady, iterate, Met, Simulates}
 use Rattle.pass_core.specs.Semantics as semantics
 use Rattle.pass_core.specs.Simulation.{simulation_from, iterate-step, IsPrefix-refl}
 use Rattle.ccelf_build.specs.SourceRun.{put_act, source_after}
@@ -113,7 +113,14 @@ module _ (code : List ℕ) (status back : ℕ) (tail : List ℕ) (short : length
       let h : Here code r.e (put_code n ++ (rest_code left status ++ tail)) = subst (Here code r.e) (append_assoc (put_code n) (rest_code left status) tail) r.here in
       let w = put code r.bytes r.e r.eax r.ecx r.edx r.ebx r.ebp r.esi r.edi n (rest_code left status ++ tail) r.input acts short r.whole r.small.0 h in
       record {
-        e = w.next; eax = n; ecx = 3221225444; edx = 1; ebx = 1; ebp = r.ebp; esi = r.esi; edi = r.edi;
+        e = w.next;
+        eax = n;
+        ecx = 3221225444;
+        edx = 1;
+        ebx = 1;
+        ebp = r.ebp;
+        esi = r.esi;
+        edi = r.edi;
         bytes = with_word r.bytes 3221225444 n;
         input = r.input;
         here = w.here;

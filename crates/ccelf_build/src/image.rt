@@ -13,13 +13,16 @@ const FILE_START: u32 = 0x0804_8000;
 
 /// The first address that a segment may have, and the end of the last.
 const FIRST_ADDRESS: u32 = 0x0804_9000;
+
 const END_ADDRESS: u32 = 0x0904_8000;
 
 /// How many bytes the ELF header and the program header have.
 const HEADERS: u32 = 84;
 
 const IDENT: [u8; 16] = [0x7f, 0x45, 0x4c, 0x46, 1, 1, 1, 0, 0, 0, 0, 0, 0, 0, 0, 0];
+
 const KIND: [u8; 4] = [2, 0, 3, 0];
+
 const SIZES: [u8; 12] = [52, 0, 32, 0, 1, 0, 0, 0, 0, 0, 0, 0];
 
 /// An image: where execution begins, and its one segment.

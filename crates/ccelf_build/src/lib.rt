@@ -2,8 +2,8 @@
 #![tactic(auto)]
 
 mod answer;
-mod commands;
 mod code;
+mod commands;
 mod finish;
 mod image;
 mod link;

@@ -84,12 +84,7 @@ fn are_names(image: &str, unit: &str) -> bool
 }
 
 // The order that four words spell.
-fn read_exec<'a>(
-    command: &str,
-    steps: &str,
-    image: &'a str,
-    unit: &'a str,
-) -> Option<Order<'a>>
+fn read_exec<'a>(command: &str, steps: &str, image: &'a str, unit: &'a str) -> Option<Order<'a>>
     ensures some { IfSome result (λ order. Fits (command.now ∷ steps.now ∷ image.now ∷ unit.now ∷ []) (request_of order)) }
     ensures only { (n : ℕ) (i u : List ℕ) → FitsExec (command.now ∷ steps.now ∷ image.now ∷ unit.now ∷ []) n i u → option_map request_of result ≡ Some (Exec n i u) }
 {

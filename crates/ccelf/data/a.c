@@ -1,0 +1,1 @@
+int main(void) { putbyte(72); return 7; }
