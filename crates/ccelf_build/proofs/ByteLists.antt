@@ -1,6 +1,6 @@
 -- Lists of bytes that grow piece by piece.
-use Rattle.std.specs.Prelude.{◌≡◌, ℕ, zero, suc, ◌+◌, ◌<◌, List, [], ◌∷◌, ◌++◌, take, drop, length, get_or, replicate}
-use Rattle.std.proofs.Common.{arith, ◌∙◌, ap, sym, refl, append_assoc, append-nil, drop-cons, add-one}
+use Rattle.std.specs.Prelude.{◌≡◌, ℕ, ◌+◌, ◌<◌, List, [], ◌∷◌, ◌++◌, take, drop, length, get_or}
+use Rattle.std.proofs.Common.{◌∙◌, ap, sym, refl, append_assoc, append-nil, drop-cons, add-one}
 use Rattle.std.proofs.lemmas.List.{take_more, replicate-append-replicate}
 use Rattle.cc_base.specs.Words.{word_bytes}
 use Rattle.i386_machine.specs.Regions.{zeros}

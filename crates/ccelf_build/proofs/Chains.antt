@@ -3,8 +3,8 @@ use Rattle.std.proofs.Common.{◌≡◌, ℕ, List, Result, Ok, Err, refl, inl, 
 use Rattle.cc_base.specs.Seen.{FilesSeen, SourceSeen, SinkSeen}
 use Rattle.ccelf_build.specs.declared.answer.Answer.{Answer}
 use Rattle.ccelf_build.specs.declared.answer.Answer.TheVariants as answer
-use Rattle.ccelf_build.specs.Doing.{Outside, outside, Step, Command, Then}
-use Rattle.ccelf_build.specs.Steps.{Fetched, Put, Compiled, UnitCode, Stores, Compiles, Links, Runs}
+use Rattle.ccelf_build.specs.Doing.{Outside, outside, Command, Then}
+use Rattle.ccelf_build.specs.Steps.{Fetched, Put, Compiled, Stores, Compiles, Links, Runs}
 use Rattle.ccelf_build.specs.Link.{image_of}
 use Rattle.ccelf_build.specs.Commands.{exec_does, object_name}
 

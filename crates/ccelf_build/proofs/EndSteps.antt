@@ -1,19 +1,18 @@
 -- The two steps before the first item of a unit, and the six of its `return`.
-use Rattle.std.specs.Prelude.{◌≡◌, ℕ, ◌+◌, ◌%◌, ◌<◌, ◌≤◌, ◌^◌, List, [], ◌∷◌, ◌++◌, length, get_or, Some, None, Option, option_map}
-use Rattle.std.proofs.Common.{arith, ◌∙◌, ap, sym, refl, lit≤, lit<, subst}
-use Rattle.cc_base.specs.Words.{word_bytes, byte_of, join-word_bytes, add32, sub32}
+use Rattle.std.specs.Prelude.{◌≡◌, ℕ, ◌+◌, ◌%◌, ◌<◌, ◌^◌, List, [], ◌∷◌, ◌++◌, length, Some, None, Option, option_map}
+use Rattle.std.proofs.Common.{arith, ◌∙◌, ap, refl, lit≤}
+use Rattle.cc_base.specs.Words.{word_bytes, join-word_bytes, add32, sub32}
 use Rattle.cc_base.specs.declared.run.Act.{Act}
-use Rattle.i386_machine.specs.declared.instruction.Reg.TheVariants.{Eax, Ecx, Edx, Ebx, Esp}
-use Rattle.i386_machine.specs.declared.instruction.Instr.{Instr}
+use Rattle.i386_machine.specs.declared.instruction.Reg.TheVariants.{Eax, Ebx}
 use Rattle.i386_machine.specs.declared.instruction.Instr.TheVariants as instr
 use Rattle.i386_machine.specs.declared.event.Standing.TheVariants.{Running, Ended}
 use Rattle.i386_machine.specs.Machine.{State}
-use Rattle.i386_machine.specs.Step.{Doing, Goes, Ends, doing, accessed}
+use Rattle.i386_machine.specs.Step.{Goes, Ends, doing, accessed}
 use Rattle.i386_machine.specs.Regions.{Region, store_word}
 use Rattle.i386_machine.specs.Runs.{Run}
 use Rattle.pass_core.specs.Semantics.{iterate}
 use Rattle.ccelf_build.specs.Code.{return_code, start_code}
-use Rattle.ccelf_build.proofs.StackAndCode.{memory_of, stack_word, stack_word-other, with_word, with_word-whole, Whole, InStack, stack_word-same, Here, skip, place}
+use Rattle.ccelf_build.proofs.StackAndCode.{memory_of, stack_word, stack_word-other, with_word, with_word-whole, Whole, InStack, stack_word-same, Here, skip}
 use Rattle.ccelf_build.proofs.Hops.{hop, hop-goes, hop-ends, one_more, run_of, words, machine_at, doing-here, stores, reads}
 
 some : (x : ℕ) (xs : List ℕ) → 0 < length (x ∷ xs)

@@ -1,25 +1,21 @@
 -- What a run of the loaded machine says of the image's bytes.
-use Rattle.std.specs.Prelude.{◌≡◌, ◌≢◌, ℕ, zero, suc, ◌+◌, List, [], ◌∷◌, ◌++◌, Option, Some, None, slice_get}
+use Rattle.std.specs.Prelude.{◌≡◌, ℕ, suc, ◌+◌, List, [], ◌∷◌, ◌++◌, Option, Some, None, slice_get}
 use Rattle.std.proofs.Common.{◌∙◌, ap, sym, refl, subst, inr, arith}
 use Rattle.cc_base.specs.Seen.{FilesSeen, SourceSeen, SinkSeen}
-use Rattle.cc_base.specs.Outside.{SourceFailed, SinkFailed, SinkWanted}
+use Rattle.cc_base.specs.Outside.{SinkFailed, SinkWanted}
 use Rattle.cc_base.specs.Runs as runs
 use Rattle.cc_base.specs.declared.run.Act.{Act}
 use Rattle.cc_base.specs.declared.run.Act.TheVariants as act
-use Rattle.cc_base.specs.declared.run.Outcome.{Outcome}
-use Rattle.cc_base.specs.declared.run.Outcome.TheVariants as outcome
 use Rattle.i386_machine.specs.declared.event.Standing.{Standing}
 use Rattle.i386_machine.specs.declared.event.Standing.TheVariants as standing
-use Rattle.i386_machine.specs.declared.event.RunEnd.{RunEnd}
 use Rattle.i386_machine.specs.declared.event.RunEnd.TheVariants as end
 use Rattle.i386_machine.specs.Machine as machine
 use Rattle.i386_machine.specs.Step.{Doing, Asks, Gives, doing, stepped}
 use Rattle.i386_machine.specs.Runs as i386
-use Rattle.ccelf_build.specs.declared.answer.Answer.{Answer}
 use Rattle.ccelf_build.specs.declared.answer.Answer.TheVariants as answer
 use Rattle.ccelf_build.specs.Image.{Image, image_in}
 use Rattle.ccelf_build.specs.ImageRun.{loaded, run_of_image, image_after}
-use Rattle.ccelf_build.specs.Doing.{Outside, outside}
+use Rattle.ccelf_build.specs.Doing.{outside}
 use Rattle.ccelf_build.specs.Steps.{Ran, Stands, NextDoes, IsAsked, IsGiven, CutOff, Runs}
 
 module _ (bytes : List ℕ) (image : Image) (read : image_in bytes ≡ Some image) where

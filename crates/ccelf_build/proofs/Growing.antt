@@ -1,5 +1,5 @@
 -- What a sink got in two parts.
-use Rattle.std.specs.Prelude.{◌≡◌, ℕ, List, [], ◌∷◌, ◌++◌, Option, Some, None, option_map, Bool, false}
+use Rattle.std.specs.Prelude.{◌≡◌, ℕ, List, [], ◌∷◌, ◌++◌, Option, Some, None, option_map, Bool}
 use Rattle.std.proofs.Common.{◌∙◌, ap, refl, append_assoc}
 use Rattle.cc_base.specs.Seen.{SinkSeen}
 use Rattle.cc_base.specs.Outside.{grown, flushed_still}

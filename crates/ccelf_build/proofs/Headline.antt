@@ -1,21 +1,20 @@
 -- For every unit of the first form, the bytes of the image that is made of its code refine its meaning.
-use Rattle.std.specs.Prelude.{◌≡◌, ℕ, zero, suc, ◌+◌, ◌-◌, ◌*◌, ◌%◌, ◌<◌, ◌≤◌, ◌^◌, List, [], ◌∷◌, ◌++◌, length, Option, Some, true, false}
+use Rattle.std.specs.Prelude.{◌≡◌, ℕ, ◌+◌, ◌-◌, ◌*◌, ◌%◌, ◌<◌, ◌≤◌, ◌^◌, List, [], ◌∷◌, ◌++◌, length, Some, true}
 use Rattle.std.proofs.Common.{arith, ◌∙◌, ap, sym, refl, subst, append-nil, append_assoc, length-append}
 use Rattle.std.proofs.lemmas.Bool.{and_from, le-leb, lt-ltb}
 use Rattle.cc_base.specs.Runs.{State}
 use Rattle.cc_base.specs.Words.{add32, sub32, word_bytes}
-use Rattle.i386_machine.specs.Regions.{Region, zeros, length-zeros}
-use Rattle.i386_machine.specs.Machine as machine
-use Rattle.i386_machine.specs.Runs.{after, begun, seen_of, Run}
+use Rattle.i386_machine.specs.Regions.{zeros, length-zeros}
+use Rattle.i386_machine.specs.Runs.{after, begun, seen_of}
 use Rattle.pass_core.specs.Refines.{Refines}
 use Rattle.pass_core.specs.Semantics as semantics
 use Rattle.ccelf_build.specs.SourceRun.{source_after}
-use Rattle.ccelf_build.specs.Code.{put_code, rest_code, main_code, start_code, padding, text_of, text_start}
-use Rattle.ccelf_build.specs.Image.{Image, is_proper, written_image, image_in}
+use Rattle.ccelf_build.specs.Code.{put_code, rest_code, main_code, start_code, padding, text_of}
+use Rattle.ccelf_build.specs.Image.{is_proper, image_in}
 use Rattle.ccelf_build.specs.Link.{linked, image_of}
 use Rattle.ccelf_build.specs.Images.{AreWords, UnitNumbers}
 use Rattle.ccelf_build.specs.ImageRun.{loaded, run_of_image, image_after}
-use Rattle.ccelf_build.proofs.StackAndCode.{Whole, Here, code_region, skip, memory_of}
+use Rattle.ccelf_build.proofs.StackAndCode.{Here, skip}
 use Rattle.ccelf_build.proofs.Hops.{hop, run_of, words, machine_at}
 use Rattle.ccelf_build.proofs.EndSteps.{start, exit_code, Started}
 use Rattle.ccelf_build.proofs.UnitRefines.{AtItem, refines_from, after-iterate, source-iterate, unit_semantics, image_semantics, Going}

@@ -1,21 +1,17 @@
 -- The machine's steps on the instructions of a unit's code, one equation for each.
-use Rattle.std.specs.Prelude.{◌≡◌, ℕ, zero, suc, ◌+◌, ◌%◌, ◌<◌, ◌^◌, List, [], ◌∷◌, ◌++◌, length, get_or, set, Option, Some, None, option_map, slice_get}
-use Rattle.std.proofs.Common.{arith, ◌∙◌, ap, sym, refl, append-nil}
-use Rattle.cc_base.specs.Words.{byte_of, word_bytes, join, join-word_bytes, add32}
+use Rattle.std.specs.Prelude.{◌≡◌, ℕ, suc, ◌<◌, List, [], ◌∷◌, ◌++◌, length, Option, Some, option_map, slice_get}
+use Rattle.std.proofs.Common.{◌∙◌, ap, refl, append-nil}
 use Rattle.cc_base.specs.declared.run.Act.{Act}
 use Rattle.cc_base.specs.declared.run.Act.TheVariants.{Gave}
-use Rattle.i386_machine.specs.declared.instruction.Reg.{Reg}
-use Rattle.i386_machine.specs.declared.instruction.Reg.TheVariants.{Eax, Ecx, Edx, Ebx, Esp}
 use Rattle.i386_machine.specs.declared.instruction.Instr.{Instr}
-use Rattle.i386_machine.specs.declared.instruction.Instr.TheVariants as instr
 use Rattle.i386_machine.specs.declared.event.Standing.TheVariants as standing
-use Rattle.i386_machine.specs.Regions.{Region, fetch, word_at, store_word, byte_at}
-use Rattle.i386_machine.specs.Instructions.{decoded, number_of}
-use Rattle.i386_machine.specs.Machine.{State, with_register}
-use Rattle.i386_machine.specs.Step.{Doing, Goes, Asks, Gives, Ends, Sticks, doing, fetched, executed, effect, accessed, past, popped, answered, stepped, write_call, system_call}
+use Rattle.i386_machine.specs.Regions.{Region, word_at, store_word}
+use Rattle.i386_machine.specs.Instructions.{decoded}
+use Rattle.i386_machine.specs.Machine.{State}
+use Rattle.i386_machine.specs.Step.{Doing, Goes, Gives, Ends, doing, fetched, executed, effect, accessed, answered, stepped}
 use Rattle.i386_machine.specs.Runs.{Run, advance, left_after, acts_of}
 use Rattle.pass_core.specs.Semantics.{iterate}
-use Rattle.ccelf_build.proofs.StackAndCode.{memory_of, stack_word, with_word, Whole, InStack, word_at-stack, store_word-stack, byte_at-stack, Here, skip, fetch-here, place}
+use Rattle.ccelf_build.proofs.StackAndCode.{memory_of, stack_word, with_word, Whole, InStack, word_at-stack, store_word-stack, Here, fetch-here}
 
 -- one step. It is opaque, so that many of them are compared by their equations alone
 pub hop : Run → Run

@@ -1,11 +1,11 @@
 -- What is written for an image is read back as that image.
-use Rattle.std.specs.Prelude.{◌≡◌, ℕ, ◌+◌, ◌-◌, ◌<◌, ◌≤◌, ◌^◌, List, [], ◌∷◌, ◌++◌, length, drop, get_or, Option, Some, None, Bool, true, false, ◌&&◌, if◌then◌else◌}
+use Rattle.std.specs.Prelude.{◌≡◌, ℕ, ◌+◌, ◌-◌, ◌<◌, ◌≤◌, ◌^◌, List, ◌++◌, length, drop, Some, None, Bool, true, ◌&&◌, if◌then◌else◌}
 use Rattle.std.specs.Str.{bytes_eq}
-use Rattle.std.proofs.Common.{arith, ◌∙◌, ap, sym, refl, subst}
+use Rattle.std.proofs.Common.{arith, ◌∙◌, ap, refl}
 use Rattle.std.proofs.Math.Seq.{drop-append_seam, drop-append-add}
 use Rattle.std.proofs.lemmas.Slice.Eq.{bytes_eq-Decides}
 use Rattle.std.proofs.lemmas.Bool.{and_parts, and_from, leb-true, ltb-true}
-use Rattle.cc_base.specs.Words.{word_bytes, byte_of, join, join-word_bytes}
+use Rattle.cc_base.specs.Words.{join-word_bytes}
 use Rattle.i386_machine.specs.Regions.{zeros, length-zeros}
 use Rattle.ccelf_build.specs.Image.{Image, offset_of, elf_header, program_header, written_image, is_proper, word_in, fields_of, image_in}
 

@@ -1,5 +1,5 @@
 -- What a command leaves in the files.
-use Rattle.std.proofs.Common.{◌≡◌, ◌∷◌, [], ℕ, List, Option, Some, None, option_map, Ok, Err, zip, refl, inl, inr, ap, ◌∙◌}
+use Rattle.std.proofs.Common.{◌≡◌, ◌∷◌, [], ℕ, List, Option, Some, None, option_map, Ok, Err, refl, inl, inr, ap, ◌∙◌}
 use Rattle.std.specs.FinMap.{insert}
 use Rattle.cc_base.specs.Seen.{FilesSeen}
 use Rattle.ccelf_build.specs.declared.answer.Answer.{Answer}

@@ -17,3 +17,4 @@ pub mod Raising
 pub mod Forcing
 pub mod Keeping
 pub mod TellsAll
+pub mod Causing

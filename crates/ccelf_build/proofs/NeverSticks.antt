@@ -1,7 +1,6 @@
 -- The machine of a unit's image never sticks, whatever the outside answers.
 use Rattle.std.specs.Prelude.{◌≡◌, ◌≢◌, ℕ, zero, suc, ◌%◌, List, [], ◌∷◌, ◌++◌, Option, Some, None, slice_get, map, take, length, nat_le, Bool, true, false, if◌then◌else◌}
 use Rattle.std.proofs.Common.{◌∙◌, ap, sym, refl, subst}
-use Rattle.cc_base.specs.Runs as runs
 use Rattle.cc_base.specs.declared.run.Act.{Act}
 use Rattle.cc_base.specs.declared.run.Act.TheVariants as act
 use Rattle.cc_base.specs.declared.run.Outcome.{Outcome}
@@ -10,8 +9,8 @@ use Rattle.i386_machine.specs.declared.event.Cause.{Cause}
 use Rattle.i386_machine.specs.declared.event.Standing.TheVariants as standing
 use Rattle.i386_machine.specs.Machine as machine
 use Rattle.i386_machine.specs.Step.{Doing, Goes, Asks, Gives, Ends, Sticks, doing, stepped, step, Stepped}
-use Rattle.i386_machine.specs.Runs.{Run, after, acts_of, Path, seen_of}
-use Rattle.pass_core.specs.Refines.{Sound, Agrees, Refines}
+use Rattle.i386_machine.specs.Runs.{after, acts_of, Path, seen_of}
+use Rattle.pass_core.specs.Refines.{Sound, Agrees}
 use Rattle.ccelf_build.specs.SourceRun.{put_act, source_after}
 
 -- acts that only emit

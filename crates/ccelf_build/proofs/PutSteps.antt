@@ -1,19 +1,17 @@
 -- The eight steps of one `putbyte`.
-use Rattle.std.specs.Prelude.{◌≡◌, ℕ, ◌%◌, ◌<◌, ◌≤◌, ◌^◌, List, [], ◌∷◌, ◌++◌, length, get_or, Some, Option}
-use Rattle.std.proofs.Common.{arith, ◌∙◌, ap, sym, refl, lit≤, lit<}
-use Rattle.cc_base.specs.Words.{word_bytes, byte_of, join-word_bytes, add32}
+use Rattle.std.specs.Prelude.{◌≡◌, ℕ, ◌%◌, ◌<◌, ◌^◌, List, [], ◌∷◌, ◌++◌, length, Some}
+use Rattle.std.proofs.Common.{arith, ◌∙◌, ap, refl, lit≤}
+use Rattle.cc_base.specs.Words.{word_bytes, join-word_bytes, add32}
 use Rattle.cc_base.specs.declared.run.Act.{Act}
 use Rattle.i386_machine.specs.declared.instruction.Reg.TheVariants.{Eax, Ecx, Edx, Ebx, Esp}
-use Rattle.i386_machine.specs.declared.instruction.Instr.{Instr}
 use Rattle.i386_machine.specs.declared.instruction.Instr.TheVariants as instr
 use Rattle.i386_machine.specs.declared.event.Standing.TheVariants.{Running}
-use Rattle.i386_machine.specs.Machine.{State}
-use Rattle.i386_machine.specs.Step.{Doing, Goes, Gives, doing, write_call}
+use Rattle.i386_machine.specs.Step.{Goes, Gives, doing, write_call}
 use Rattle.i386_machine.specs.Runs.{Run}
 use Rattle.pass_core.specs.Semantics.{iterate}
 use Rattle.ccelf_build.specs.Code.{put_code}
 use Rattle.ccelf_build.specs.SourceRun.{put_act}
-use Rattle.ccelf_build.proofs.StackAndCode.{memory_of, stack_word, with_word, with_word-whole, Whole, InStack, byte_at-stack, low_byte-with_word, stack_word-same, Here, skip, place}
+use Rattle.ccelf_build.proofs.StackAndCode.{with_word, with_word-whole, Whole, InStack, byte_at-stack, low_byte-with_word, stack_word-same, Here, skip}
 use Rattle.ccelf_build.proofs.Hops.{hop, hop-goes, hop-gives, one_more, run_of, words, machine_at, doing-here, stores, reads}
 
 -- what comes after each instruction

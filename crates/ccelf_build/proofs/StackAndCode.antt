@@ -1,10 +1,10 @@
 -- Memory of two regions: the stack, and one of code.
-use Rattle.std.specs.Prelude.{◌≡◌, ◌≢◌, ℕ, ◌+◌, ◌-◌, ◌<◌, ◌≤◌, ◌⊎◌, ◌^◌, Bool, true, false, cond, ◌&&◌, ◌||◌, List, [], ◌∷◌, ◌++◌, length, get_or, set, drop, Option, Some, None}
-use Rattle.std.proofs.Common.{arith, ◌∙◌, ap, sym, refl, length-set, get_or-set_same, get_or-set_other, length-append, append_assoc}
+use Rattle.std.specs.Prelude.{◌≡◌, ◌≢◌, ℕ, ◌+◌, ◌-◌, ◌<◌, ◌≤◌, ◌^◌, Bool, true, false, ◌||◌, List, [], ◌∷◌, ◌++◌, length, get_or, set, drop, Some}
+use Rattle.std.proofs.Common.{arith, ◌∙◌, ap, sym, length-set, get_or-set_same, get_or-set_other, length-append, append_assoc}
 use Rattle.std.proofs.lemmas.Bool.{cond-true, and_from, le-leb}
 use Rattle.std.proofs.Math.Seq.{drop-append_seam}
 use Rattle.cc_base.specs.Words.{byte_of, join, join-word_bytes, add32}
-use Rattle.i386_machine.specs.Regions.{Region, Shape, shape_of, shapes, spans, writable, readable, byte_at, word_at, store_word, peek, poke, peek_word, fetch}
+use Rattle.i386_machine.specs.Regions.{Region, shape_of, shapes, spans, writable, readable, byte_at, word_at, store_word, peek, poke, fetch}
 use Rattle.ccelf_build.specs.Code.{text_start}
 
 -- the stack with these bytes, 1 MiB of them

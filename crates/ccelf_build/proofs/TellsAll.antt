@@ -1,5 +1,5 @@
 -- What exec does, where the files and the input tell their bytes.
-use Rattle.std.proofs.Common.{◌≡◌, ◌<◌, ℕ, List, Option, Some, None, option_map, IfSome, drop, length, inl, inr, subst, sym, ap, ◌∙◌}
+use Rattle.std.proofs.Common.{◌≡◌, ◌<◌, ◌≤◌, ℕ, List, Option, Some, None, option_map, IfSome, drop, length, inl, inr, subst, sym, ap, ◌∙◌}
 use Rattle.std.specs.FinMap.{get, insert}
 use Rattle.cc_base.specs.Seen.{FilesSeen, SourceSeen, SinkSeen}
 use Rattle.cc_base.specs.Outside.{grown, stored, file_limit}
@@ -9,12 +9,10 @@ use Rattle.cc_base.specs.declared.run.Outcome.{Outcome}
 use Rattle.cc_base.specs.declared.run.Outcome.TheVariants as outcome
 use Rattle.ccelf_build.specs.declared.answer.Answer.{Answer}
 use Rattle.ccelf_build.specs.declared.answer.Answer.TheVariants as answer
-use Rattle.ccelf_build.specs.Link.{image_of}
-use Rattle.ccelf_build.specs.ImageRun.{image_after}
-use Rattle.ccelf_build.specs.Doing.{Outside, Then}
-use Rattle.ccelf_build.specs.Steps.{UnitCode, IsNoUnit, Stores, Compiles, Links, Runs, Ran, Stands}
+use Rattle.ccelf_build.specs.Doing.{Outside}
+use Rattle.ccelf_build.specs.Steps.{UnitCode, Runs, Ran, Stands}
 use Rattle.ccelf_build.specs.Commands.{exec_does, object_name}
-use Rattle.ccelf_build.specs.Told.{Contents, HasUnit, object_bytes, image_bytes, Untouched, ObjectPut, ImagePut, RanFor, RanTo, RanUntil, CutShort, exec_told}
+use Rattle.ccelf_build.specs.Told.{Contents, HasUnit, object_bytes, image_bytes, Untouched, ObjectPut, RanFor, RanTo, RanUntil, exec_told}
 use Rattle.ccelf_build.proofs.Chains.{after_link, after_store, after_compile, after_fetch}
 use Rattle.ccelf_build.proofs.Headline.{unit_refines}
 use Rattle.ccelf_build.proofs.UnitImage.{form_numbers}
@@ -97,13 +95,13 @@ module _ (steps : ℕ) (image unit : List ℕ) (files : Contents) (input : List 
   at_object u new told (inr h) =
       at_link u new told (subst (λ (m : Outside). after_store steps image (object_bytes u) m told new) (h.went.1 ∙ ap (λ x. record old { files = x }) h.went.0) h.goes_on)
 
-  at_compile : (text : List ℕ) (new : Outside) (told : Answer) → get files unit ≡ Some text → after_fetch steps image unit text old told new → exec_told steps image unit files input old told new
-  at_compile text new (answer.LimitForm which) g (inl h) = (h.0.1, (text, g, h.0.0), untouched new (ap (λ (x : Outside). x.files.told) h.1) (unmoved old new h.1))
-  at_compile text new answer.Memory g (inl h) = inl (untouched new (ap (λ (x : Outside). x.files.told) h.1) (unmoved old new h.1))
-  at_compile text new _ g (inl h) = absurd h.0
-  at_compile text new told g (inr h) =
+  at_compile : (text : List ℕ) (new : Outside) (told : Answer) → get files unit ≡ Some text → length text ≤ file_limit → after_fetch steps image unit text old told new → exec_told steps image unit files input old told new
+  at_compile text new (answer.LimitForm which) g l (inl h) = (h.0.1, (text, g, h.0.0), untouched new (ap (λ (x : Outside). x.files.told) h.1) (unmoved old new h.1))
+  at_compile text new answer.Memory g l (inl h) = inl (untouched new (ap (λ (x : Outside). x.files.told) h.1) (unmoved old new h.1))
+  at_compile text new _ g l (inl h) = absurd h.0
+  at_compile text new told g l (inr h) =
       let c : UnitCode text h.value = h.went.0 in
-      at_object (record { text = text; puts = c.puts; status = c.status; there = g; form = c.form }) new told
+      at_object (record { text = text; puts = c.puts; status = c.status; there = g; short = l; form = c.form }) new told
       (subst (λ (b : List ℕ). after_compile steps image unit b old told new) c.code (subst (λ (m : Outside). after_compile steps image unit h.value m told new) h.went.1 h.goes_on))
 
   pub tells_all : (new : Outside) (told : Answer) → exec_does steps image unit old told new → exec_told steps image unit files input old told new
@@ -113,5 +111,5 @@ module _ (steps : ℕ) (image unit : List ℕ) (files : Contents) (input : List 
   tells_all new answer.Memory (inl h) = inl (untouched new (ap (λ (x : FilesSeen). x.told) h.0) h.1)
   tells_all new _ (inl h) = absurd h.0
   tells_all new told (inr h) =
-      at_compile h.value new told (told_at (λ m. get m unit ≡ Some h.value) old.files.told files there h.went.0.told)
+      at_compile h.value new told (told_at (λ m. get m unit ≡ Some h.value) old.files.told files there h.went.0.told) h.went.0.short
       (subst (λ (m : Outside). after_fetch steps image unit h.value m told new) (h.went.1 ∙ ap (λ x. record old { files = x }) h.went.0.same) h.goes_on)

@@ -1,6 +1,6 @@
 -- The image of a unit, as the code reads it.
-use Rattle.std.specs.Prelude.{◌≡◌, ◌≢◌, ℕ, zero, suc, ◌+◌, ◌*◌, ◌<◌, ◌≤◌, ◌^◌, List, [], ◌∷◌, length, get_or, Option, Some, None, option_map, true, All}
-use Rattle.std.proofs.Common.{◌∙◌, ap, sym, refl, subst, arith}
+use Rattle.std.specs.Prelude.{◌≡◌, ℕ, suc, ◌≤◌, List, [], ◌∷◌, length, Option, Some, None, option_map, true, All}
+use Rattle.std.proofs.Common.{◌∙◌, ap, sym, subst, arith}
 use Rattle.cc_base.specs.declared.run.Act.{Act}
 use Rattle.i386_machine.specs.declared.event.Cause.{Cause}
 use Rattle.i386_machine.specs.declared.event.Standing.TheVariants as standing
@@ -9,7 +9,7 @@ use Rattle.i386_machine.specs.Runs.{Path}
 use Rattle.clight_syntax.specs.FirstForm.{IsFirstForm, IsInt}
 use Rattle.ccelf_build.specs.declared.image.ImageParts.{ImageParts}
 use Rattle.ccelf_build.specs.Code.{main_code}
-use Rattle.ccelf_build.specs.Image.{Image, image_in, is_proper}
+use Rattle.ccelf_build.specs.Image.{image_in, is_proper}
 use Rattle.ccelf_build.specs.Link.{linked, image_of}
 use Rattle.ccelf_build.specs.ImageRun.{loaded}
 use Rattle.ccelf_build.specs.Images.{image_seen, AreWords, UnitNumbers, IsUnitImage}

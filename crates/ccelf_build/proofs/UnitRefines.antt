@@ -1,25 +1,24 @@
 -- The image's bytes do what the unit means.
-use Rattle.std.specs.Prelude.{◌≡◌, ◌≢◌, ℕ, zero, suc, ◌+◌, ◌%◌, ◌<◌, ◌≤◌, ◌^◌, List, [], ◌∷◌, ◌++◌, length, take, map, nat_le, if◌then◌else◌, slice_get, true, false, Bool}
-use Rattle.std.proofs.Common.{arith, ◌∙◌, ap, sym, refl, subst, lit≤, append-nil, append_assoc, inr}
+use Rattle.std.specs.Prelude.{◌≡◌, ◌≢◌, ℕ, zero, suc, ◌%◌, ◌<◌, ◌^◌, List, [], ◌∷◌, ◌++◌, length, take, map, nat_le, if◌then◌else◌, slice_get, Bool}
+use Rattle.std.proofs.Common.{arith, ◌∙◌, ap, sym, refl, subst, lit≤, append-nil, append_assoc}
 use Rattle.std.proofs.lemmas.Bool.{le-leb}
 use Rattle.std.proofs.Math.Dec.{leb-suc-suc, leb-suc-zero}
 use Rattle.cc_base.specs.declared.run.Act.{Act}
-use Rattle.cc_base.specs.declared.run.Outcome.{Outcome}
 use Rattle.cc_base.specs.declared.run.Outcome.TheVariants as outcome
 use Rattle.cc_base.specs.Runs.{State, IsPrefix}
 use Rattle.i386_machine.specs.declared.event.Standing.{Standing}
 use Rattle.i386_machine.specs.declared.event.Standing.TheVariants as standing
 use Rattle.i386_machine.specs.Machine as machine
-use Rattle.i386_machine.specs.Step.{doing, doing_at, step, stepped, Sticks, Ends}
+use Rattle.i386_machine.specs.Step.{doing_at, step, stepped}
 use Rattle.i386_machine.specs.Runs.{Run, advance, after, begun, seen_of, outcome_of, acts_of}
-use Rattle.pass_core.specs.Refines.{Sound, Refines}
+use Rattle.pass_core.specs.Refines.{Refines}
 use Rattle.pass_core.specs.Semantics.{Semantics, Steady, iterate, Met, Simulates}
 use Rattle.pass_core.specs.Semantics as semantics
 use Rattle.pass_core.specs.Simulation.{simulation_from, iterate-step, IsPrefix-refl}
-use Rattle.ccelf_build.specs.SourceRun.{put_act, source_after}
-use Rattle.ccelf_build.specs.Code.{put_code, return_code, rest_code}
+use Rattle.ccelf_build.specs.SourceRun.{put_act}
+use Rattle.ccelf_build.specs.Code.{put_code, rest_code}
 use Rattle.ccelf_build.specs.Images.{AreWords}
-use Rattle.ccelf_build.proofs.StackAndCode.{stack_word, stack_word-other, with_word, with_word-whole, Whole, InStack, Here}
+use Rattle.ccelf_build.proofs.StackAndCode.{stack_word, stack_word-other, with_word, with_word-whole, Whole, Here}
 use Rattle.ccelf_build.proofs.Hops.{hop, hop-is, run_of, words, machine_at}
 use Rattle.ccelf_build.proofs.PutSteps.{put, inside}
 use Rattle.ccelf_build.proofs.EndSteps.{return, exit_code}

@@ -1,5 +1,5 @@
 -- The code of a unit of the first form, byte for byte, and the code that calls it.
-use Rattle.std.specs.Prelude.{ℕ, zero, suc, ◌+◌, ◌-◌, ◌*◌, ◌%◌, List, [], ◌∷◌, ◌++◌, length}
+use Rattle.std.specs.Prelude.{ℕ, ◌+◌, ◌-◌, ◌%◌, List, [], ◌∷◌, ◌++◌, length}
 use Rattle.cc_base.specs.Words.{word_bytes, sub32}
 use Rattle.i386_machine.specs.Regions.{zeros}
 

@@ -1,5 +1,5 @@
 -- The commands: which words ask for them, and what they do, in this order.
-use Rattle.std.specs.Prelude.{◌≡◌, ◌≢◌, ◌⊎◌, ℕ, ◌-◌, ◌≤◌, List, [], ◌∷◌, ◌++◌, length, take, codes, decimal, All, AllPairs}
+use Rattle.std.specs.Prelude.{◌≡◌, ◌≢◌, ℕ, ◌-◌, ◌≤◌, List, [], ◌∷◌, ◌++◌, length, take, codes, decimal, All, AllPairs}
 use Rattle.ccelf_build.specs.declared.answer.Answer.TheVariants as answer
 use Rattle.ccelf_build.specs.Doing.{Command, Says, Then}
 use Rattle.ccelf_build.specs.Steps.{Fetches, Stores, Compiles, Links, Runs}

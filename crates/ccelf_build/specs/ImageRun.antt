@@ -1,5 +1,5 @@
 -- What an image's bytes do, on an input, after so many instructions. Nothing but the bytes decides it.
-use Rattle.std.specs.Prelude.{ℕ, ◌/◌, ◌%◌, List, [], ◌∷◌, Option, Some, None, ◌==◌, length}
+use Rattle.std.specs.Prelude.{ℕ, ◌/◌, ◌%◌, List, [], ◌∷◌, Option, Some, None, ◌==◌}
 use Rattle.cc_base.specs.Runs.{State}
 use Rattle.cc_base.specs.declared.run.Outcome.TheVariants.{Wrong}
 use Rattle.i386_machine.specs.Machine as machine

@@ -13,4 +13,5 @@ pub mod Ends
 pub mod Kept
 pub mod Tells
 pub mod Told
+pub mod Causes
 pub mod Promise

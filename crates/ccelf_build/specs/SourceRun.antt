@@ -3,7 +3,6 @@ use Rattle.std.specs.Prelude.{ℕ, ◌%◌, List, map, take, length, nat_le, if�
 use Rattle.cc_base.specs.Runs.{State}
 use Rattle.cc_base.specs.declared.run.Act.{Act}
 use Rattle.cc_base.specs.declared.run.Act.TheVariants.{Gave}
-use Rattle.cc_base.specs.declared.run.Outcome.{Outcome}
 use Rattle.cc_base.specs.declared.run.Outcome.TheVariants.{Running, Ended}
 
 -- `putbyte` emits its argument modulo 256

@@ -1,5 +1,5 @@
 -- The steps of commands. Each says which answers it may have, and when.
-use Rattle.std.specs.Prelude.{◌≡◌, ◌⊎◌, ℕ, ◌+◌, ◌<◌, List, [], ◌∷◌, ◌++◌, Option, Some, None, option_map, Result, Ok, Err, drop}
+use Rattle.std.specs.Prelude.{◌≡◌, ◌⊎◌, ℕ, ◌+◌, ◌<◌, List, [], ◌∷◌, ◌++◌, Some, option_map, Result, Ok, Err, drop}
 use Rattle.cc_base.specs.Seen.{FilesSeen}
 use Rattle.cc_base.specs.Outside.{Got, NotThere, TooLong, ReadFailed, WriteFailed, stored, SourceFailed, SinkFailed, SinkWanted, grown}
 use Rattle.cc_base.specs.Runs.{emitted, taken}

@@ -1,5 +1,5 @@
 -- What exec comes to where the files and the input tell their bytes: one row for each answer.
-use Rattle.std.specs.Prelude.{◌≡◌, ◌⊎◌, ℕ, ◌<◌, List, length, drop, Some, None}
+use Rattle.std.specs.Prelude.{◌≡◌, ◌⊎◌, ℕ, ◌<◌, ◌≤◌, List, length, drop, Some, None}
 use Rattle.std.specs.Ordering.{nat_cmp}
 use Rattle.std.specs.Cmp.Lexicographic.{slice_cmp}
 use Rattle.std.specs.FinMap.{FinMap, get, insert}
@@ -21,12 +21,13 @@ use Rattle.ccelf_build.specs.Commands.{object_name}
 abbrev pub Contents : Type 0
 Contents = FinMap (slice_cmp nat_cmp) (List ℕ)
 
--- under the unit's name stands a text of the form, with these numbers to put and this one to return
+-- under the unit's name stands a text of the form, with these numbers to put and this one to return, and it is not too long
 pub record HasUnit (unit : List ℕ) (files : Contents) : Type 0 where
   pub text : List ℕ
   pub puts : List ℕ
   pub status : ℕ
   pub there : get files unit ≡ Some text
+  pub short : length text ≤ file_limit
   pub form : IsFirstForm text puts status
 
 -- the object of the unit, and the image that is made of it

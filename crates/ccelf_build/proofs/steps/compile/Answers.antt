@@ -1,4 +1,4 @@
-use Rattle.std.proofs.Common.{ap, sym, ◌∙◌}
+use Rattle.std.proofs.Common.{◌∙◌}
 use Rattle.ccelf_build.proofs.steps.compile.Goals as goal
 
 pub returns-in-Ok-from_slice : goal.returns-in-Ok-from_slice

@@ -1,4 +1,3 @@
-use Rattle.std.proofs.Common.{inl, ap}
 use Rattle.ccelf_build.specs.Images.{image_seen}
 use Rattle.ccelf_build.proofs.UnitImage.{read_some, read_is, parts_proper, unit_goes}
 use Rattle.ccelf_build.proofs.FromMachine.{ended, spent, read_failed, write_failed, wanted}

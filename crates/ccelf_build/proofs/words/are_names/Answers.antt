@@ -1,7 +1,6 @@
-use Rattle.std.proofs.Common.{◌≡◌, ◌≢◌, ℕ, List, [], length, false, ap, sym, refl, ◌∙◌}
+use Rattle.std.proofs.Common.{◌≡◌, ◌≢◌, ℕ, List, length, false, ap, sym, refl}
 use Rattle.std.specs.Str.{bytes_eq}
 use Rattle.std.proofs.lemmas.Slice.Eq.{bytes_eq-Decides}
-use Rattle.ccelf_build.specs.Commands.{object_name}
 use Rattle.ccelf_build.proofs.WordFacts.{exec_names}
 use Rattle.ccelf_build.proofs.words.are_names.Goals as goal
 

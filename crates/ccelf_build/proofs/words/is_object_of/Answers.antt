@@ -1,4 +1,4 @@
-use Rattle.std.proofs.Common.{◌≡◌, ◌-◌, ap, sym, take, length, ◌∙◌}
+use Rattle.std.proofs.Common.{◌-◌, ap, sym, take, length, ◌∙◌}
 use Rattle.std.proofs.lemmas.Slice.Eq.{bytes_eq-Decides}
 use Rattle.ccelf_build.proofs.WordFacts.{object_name-front}
 use Rattle.ccelf_build.proofs.words.is_object_of.Goals as goal

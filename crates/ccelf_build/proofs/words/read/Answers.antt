@@ -1,5 +1,5 @@
 use Rattle.std.proofs.Common.{◌≡◌, ◌∷◌, [], string_bytes, subst}
-use Rattle.ccelf_build.specs.Commands.{Request, Exec, FitsExec}
+use Rattle.ccelf_build.specs.Commands.{Exec, FitsExec}
 use Rattle.ccelf_build.specs.Orders.{texts}
 use Rattle.ccelf_build.proofs.WordFacts.{four_texts}
 use Rattle.ccelf_build.proofs.words.read.Goals as goal
