@@ -3,7 +3,8 @@
 #![tactic(auto)]
 
 use cc_base::{HostFiles, HostSink, HostSource};
-use ccelf_build::ccelf;
+use ccelf_build::{Status, ccelf};
+use std::io::ErrorKind;
 use std::process::ExitCode;
 use std::{env, io};
 
@@ -19,8 +20,13 @@ fn words_of(rt: &HostRuntime) -> io::Result<Vec<String>> {
 fn main(rt: HostRuntime) -> ExitCode {
     let words = match words_of(&rt) {
         Ok(words) => words,
-        // Words that the host cannot give as text fit no command.
-        Err(_) => Vec::new(rt.alloc()),
+        Err(error) => {
+            if error.kind() == ErrorKind::OutOfMemory {
+                return ExitCode::from(Status::Memory.number());
+            }
+            // Words that are no text fit no command, and neither do no words.
+            Vec::new(rt.alloc())
+        }
     };
     let mut files = HostFiles::new(&rt);
     let mut input = HostSource::new(rt.stdin());
