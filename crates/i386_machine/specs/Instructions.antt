@@ -32,6 +32,7 @@ reg_of _ = Edi
 abbrev pub spelling : Instr → List ℕ
 spelling (instr.LoadImm to value) = (184 + number_of to) ∷ word_bytes value
 spelling (instr.Store to from) = 137 ∷ (192 + 8 * number_of from + number_of to) ∷ []
+spelling (instr.Lea to scale plus) = 141 ∷ (68 + 8 * number_of to) ∷ (64 * scale + 36) ∷ plus ∷ []
 spelling (instr.Push from) = (80 + number_of from) ∷ []
 spelling (instr.Pop to) = (88 + number_of to) ∷ []
 spelling (instr.Call by) = 232 ∷ word_bytes by
@@ -42,6 +43,7 @@ spelling (instr.Interrupt number) = 205 ∷ number ∷ []
 abbrev pub size_of : Instr → ℕ
 size_of (instr.LoadImm to value) = 5
 size_of (instr.Store to from) = 2
+size_of (instr.Lea to scale plus) = 4
 size_of (instr.Push from) = 1
 size_of (instr.Pop to) = 1
 size_of (instr.Call by) = 5
@@ -52,6 +54,7 @@ size_of (instr.Interrupt number) = 2
 abbrev pub Fits : Instr → Type 0
 Fits (instr.LoadImm to value) = value < 2 ^ 32
 Fits (instr.Store to from) = Unit {0}
+Fits (instr.Lea to scale plus) = (scale < 4) × (plus < 256)
 Fits (instr.Push from) = Unit {0}
 Fits (instr.Pop to) = Unit {0}
 Fits (instr.Call by) = by < 2 ^ 32
@@ -75,6 +78,11 @@ abbrev pub store : List ℕ → Option Instr
 store (modrm ∷ rest) = if nat_le 192 modrm then Some (instr.Store (reg_of (modrm % 8)) (reg_of (modrm / 8 % 8))) else None
 store [] = None
 
+-- a ModRM byte with a byte of displacement, and a SIB byte of esp without an index, whose scale means nothing
+abbrev pub lea : List ℕ → Option Instr
+lea (modrm ∷ sib ∷ plus ∷ rest) = if modrm / 64 == 1 && (modrm % 8 == 4 && sib % 64 == 36) then Some (instr.Lea (reg_of (modrm / 8 % 8)) (sib / 64) plus) else None
+lea _ = None
+
 abbrev pub interrupt : List ℕ → Option Instr
 interrupt (number ∷ rest) = Some (instr.Interrupt number)
 interrupt [] = None
@@ -84,6 +92,7 @@ abbrev pub from_opcode : ℕ → List ℕ → Option Instr
 from_opcode opcode rest =
     if is_from 184 opcode then load_imm (reg_of (opcode - 184)) rest
     else if opcode == 137 then store rest
+    else if opcode == 141 then lea rest
     else if is_from 80 opcode then Some (instr.Push (reg_of (opcode - 80)))
     else if is_from 88 opcode then Some (instr.Pop (reg_of (opcode - 88)))
     else if opcode == 232 then call rest

@@ -1,5 +1,5 @@
 -- One step of the machine: the instruction at eip and its effect (Intel SDM volume 2, chapters 3 and 4), or the system call (Linux, int 0x80), or the cause for which there is no step.
-use Rattle.std.specs.Prelude.{ℕ, ◌%◌, List, Option, Some, None, option_map, Bool, true, false, ◌&&◌, ◌==◌, if◌then◌else◌}
+use Rattle.std.specs.Prelude.{nat_lt, ℕ, ◌+◌, ◌%◌, List, Option, Some, None, option_map, Bool, true, false, ◌&&◌, ◌==◌, if◌then◌else◌}
 use Rattle.cc_base.specs.Words.{add32, sub32}
 use Rattle.i386_machine.specs.declared.instruction.Reg.TheVariants.{Eax, Ecx, Edx, Ebx, Esp}
 use Rattle.i386_machine.specs.declared.instruction.Instr.{Instr}
@@ -66,10 +66,15 @@ system_call m =
     else if register m Eax == 4 && register m Ebx == 1 && register m Edx == 1 then write_call (register m Ecx) (byte_at m.regions (register m Ecx))
     else Sticks cause.System
 
+-- a byte as a signed number, as a word
+abbrev pub sign_extended : ℕ → ℕ
+sign_extended byte = if nat_lt byte 128 then byte else byte + 4294967040
+
 -- what an instruction does
 abbrev pub effect : Instr → State → Doing
 effect (instr.LoadImm to value) m = Goes (with_register (past 5 m) to value)
 effect (instr.Store to from) m = Goes (with_register (past 2 m) to (register m from))
+effect (instr.Lea to scale plus) m = Goes (with_register (past 4 m) to (add32 (register m Esp) (sign_extended plus)))
 effect (instr.Push from) m = accessed (sub32 (register m Esp) 4) (pushed (past 1 m) (register m from))
 effect (instr.Pop to) m = accessed (register m Esp) (option_map (λ word. with_register (popped (past 1 m)) to word) (top_word m))
 effect (instr.Call by) m = let back = add32 m.eip 5 in

@@ -24,6 +24,8 @@ pub enum Instr {
     LoadImm { to: Reg, value: u32 },
     /// mov between registers: 89 /r with mod 3.
     Store { to: Reg, from: Reg },
+    /// lea: 8D /r with mod 1, base esp, no index, and a signed byte of displacement. The scale of no index means nothing.
+    Lea { to: Reg, scale: u8, plus: u8 },
     /// 50+r.
     Push { from: Reg },
     /// 58+r.
