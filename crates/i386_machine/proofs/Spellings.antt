@@ -1,13 +1,13 @@
 -- What the bytes of instructions decode to, and which bytes decode.
 use Rattle.std.proofs.Common.{◌≡◌, ℕ, zero, suc, ◌+◌, ◌-◌, ◌*◌, ◌/◌, ◌%◌, ◌<◌, ◌≤◌, ◌^◌, List, [], ◌∷◌, ◌++◌, get_or, Option, Some, None, IfSome, true, refl, sym, ap, ◌∙◌, arith}
 use Rattle.std.proofs.lemmas.Bool.{eqb-true, leb-true, le-leb, and_parts, cond_both, cond-true}
-use Rattle.std.specs.Prelude.{nat_le, ◌==◌}
+use Rattle.std.specs.Prelude.{nat_le, ◌==◌, ◌&&◌}
 use Rattle.cc_base.specs.Words.{join, byte_of, word_bytes, join-word_bytes}
 use Rattle.i386_machine.specs.declared.instruction.Reg.{Reg}
 use Rattle.i386_machine.specs.declared.instruction.Reg.TheVariants.{Eax, Ecx, Edx, Ebx, Esp, Ebp, Esi, Edi}
 use Rattle.i386_machine.specs.declared.instruction.Instr.{Instr}
 use Rattle.i386_machine.specs.declared.instruction.Instr.TheVariants as instr
-use Rattle.i386_machine.specs.Instructions.{number_of, reg_of, spelling, Fits, is_from, load_imm, call, store, interrupt, from_opcode, decoded}
+use Rattle.i386_machine.specs.Instructions.{number_of, reg_of, spelling, Fits, is_from, load_imm, call, store, lea, interrupt, from_opcode, decoded}
 
 pub number_of-small : (r : Reg) → number_of r < 8
 number_of-small Eax = omega arith
@@ -82,6 +82,24 @@ store_begins opcode (modrm ∷ rest) e small =
     (rest, ap (λ (x : ℕ). x ∷ modrm ∷ rest) e ∙ ap (λ (x : ℕ). 137 ∷ x ∷ rest) whole))
     (λ t. tt)
 
+lea_begins : (opcode : ℕ) (rest : List ℕ) → opcode ≡ 141 → Begins (opcode ∷ rest) (lea rest)
+lea_begins opcode [] e = tt
+lea_begins opcode (a ∷ []) e = tt
+lea_begins opcode (a ∷ b ∷ []) e = tt
+lea_begins opcode (modrm ∷ sib ∷ plus ∷ rest) e =
+    cond_both (modrm / 64 == 1 && (modrm % 8 == 4 && sib % 64 == 36)) (Some (instr.Lea (reg_of (modrm / 8 % 8)) (sib / 64) plus)) None (Begins (opcode ∷ modrm ∷ sib ∷ plus ∷ rest))
+    (λ t.
+    let p = and_parts (modrm / 64 == 1) (modrm % 8 == 4 && sib % 64 == 36) t in
+    let q = and_parts (modrm % 8 == 4) (sib % 64 == 36) p.1 in
+    let mode : modrm / 64 ≡ 1 = eqb-true (modrm / 64) 1 p.0 in
+    let rm : modrm % 8 ≡ 4 = eqb-true (modrm % 8) 4 q.0 in
+    let base : sib % 64 ≡ 36 = eqb-true (sib % 64) 36 q.1 in
+    let to : number_of (reg_of (modrm / 8 % 8)) ≡ modrm / 8 % 8 = number_of-reg_of (modrm / 8 % 8) (omega arith) in
+    let first : modrm ≡ 68 + 8 * number_of (reg_of (modrm / 8 % 8)) = omega (arith, mode, rm, to) in
+    let second : sib ≡ 64 * (sib / 64) + 36 = omega (arith, base) in
+    (rest, ap (λ (x : ℕ). x ∷ modrm ∷ sib ∷ plus ∷ rest) e ∙ ap (λ (x : ℕ). 141 ∷ x ∷ sib ∷ plus ∷ rest) first ∙ ap (λ (x : ℕ). 141 ∷ (68 + 8 * number_of (reg_of (modrm / 8 % 8))) ∷ x ∷ plus ∷ rest) second))
+    (λ t. tt)
+
 interrupt_begins : (opcode : ℕ) (rest : List ℕ) → opcode ≡ 205 → Begins (opcode ∷ rest) (interrupt rest)
 interrupt_begins opcode [] e = tt
 interrupt_begins opcode (number ∷ rest) e = (rest, ap (λ (x : ℕ). x ∷ number ∷ rest) e)
@@ -99,11 +117,12 @@ opcode_begins : (opcode : ℕ) (rest : List ℕ) → ((k : ℕ) → get_or rest 
 opcode_begins opcode rest small =
     cond_both (is_from 184 opcode) _ _ (Begins (opcode ∷ rest)) (λ t. load_begins opcode (reg_of (opcode - 184)) rest (of_eight 184 opcode t) small) (λ _.
     cond_both (opcode == 137) _ _ (Begins (opcode ∷ rest)) (λ t. store_begins opcode rest (eqb-true opcode 137 t) small) (λ _.
+    cond_both (opcode == 141) _ _ (Begins (opcode ∷ rest)) (λ t. lea_begins opcode rest (eqb-true opcode 141 t)) (λ _.
     cond_both (is_from 80 opcode) _ _ (Begins (opcode ∷ rest)) (λ t. (rest, ap (λ (x : ℕ). x ∷ rest) (of_eight 80 opcode t))) (λ _.
     cond_both (is_from 88 opcode) _ _ (Begins (opcode ∷ rest)) (λ t. (rest, ap (λ (x : ℕ). x ∷ rest) (of_eight 88 opcode t))) (λ _.
     cond_both (opcode == 232) _ _ (Begins (opcode ∷ rest)) (λ t. call_begins opcode rest (eqb-true opcode 232 t) small) (λ _.
     cond_both (opcode == 195) _ _ (Begins (opcode ∷ rest)) (λ t. (rest, ap (λ (x : ℕ). x ∷ rest) (eqb-true opcode 195 t))) (λ _.
-    cond_both (opcode == 205) _ _ (Begins (opcode ∷ rest)) (λ t. interrupt_begins opcode rest (eqb-true opcode 205 t)) (λ _. tt)))))))
+    cond_both (opcode == 205) _ _ (Begins (opcode ∷ rest)) (λ t. interrupt_begins opcode rest (eqb-true opcode 205 t)) (λ _. tt))))))))
 
 pub decoded-begins : (bytes : List ℕ) → ((k : ℕ) → get_or bytes k 0 < 256) → IfSome (decoded bytes) (λ i. (rest : List ℕ) × (bytes ≡ spelling i ++ rest))
 decoded-begins [] small = tt
@@ -125,6 +144,21 @@ store_found to from rest =
     ∙ ap (λ (r : Reg). Some (instr.Store r (reg_of (number_of from)))) (reg_of-number_of to)
     ∙ ap (λ (r : Reg). Some (instr.Store to r)) (reg_of-number_of from)
 
+lea_found : (to : Reg) (scale plus : ℕ) (rest : List ℕ) → lea ((68 + 8 * number_of to) ∷ (64 * scale + 36) ∷ plus ∷ rest) ≡ Some (instr.Lea to scale plus)
+lea_found to scale plus rest =
+    let t = number_of-small to in
+    let modrm = 68 + 8 * number_of to in
+    let sib = 64 * scale + 36 in
+    let mode : modrm / 64 ≡ 1 = omega (arith, t) in
+    let rm : modrm % 8 ≡ 4 = omega (arith, t) in
+    let base : sib % 64 ≡ 36 = omega arith in
+    let reg : modrm / 8 % 8 ≡ number_of to = omega (arith, t) in
+    let times : sib / 64 ≡ scale = omega arith in
+    cond-true (modrm / 64 == 1 && (modrm % 8 == 4 && sib % 64 == 36)) (Some (instr.Lea (reg_of (modrm / 8 % 8)) (sib / 64) plus)) None (ap (λ (n : ℕ). n == 1 && (modrm % 8 == 4 && sib % 64 == 36)) mode ∙ ap (λ (n : ℕ). n == 4 && sib % 64 == 36) rm ∙ ap (λ (n : ℕ). n == 36) base)
+    ∙ ap (λ (n : ℕ). Some (instr.Lea (reg_of n) (sib / 64) plus)) reg
+    ∙ ap (λ (r : Reg). Some (instr.Lea r (sib / 64) plus)) (reg_of-number_of to)
+    ∙ ap (λ (n : ℕ). Some (instr.Lea to n plus)) times
+
 -- the bytes of an instruction decode to it, whatever comes after them
 pub decoded-spelling : (i : Instr) (rest : List ℕ) → Fits i → decoded (spelling i ++ rest) ≡ Some i
 decoded-spelling (instr.LoadImm Eax value) rest h = load_found Eax value rest h
@@ -136,6 +170,7 @@ decoded-spelling (instr.LoadImm Ebp value) rest h = load_found Ebp value rest h
 decoded-spelling (instr.LoadImm Esi value) rest h = load_found Esi value rest h
 decoded-spelling (instr.LoadImm Edi value) rest h = load_found Edi value rest h
 decoded-spelling (instr.Store to from) rest h = store_found to from rest
+decoded-spelling (instr.Lea to scale plus) rest h = lea_found to scale plus rest
 decoded-spelling (instr.Push Eax) rest h = refl
 decoded-spelling (instr.Push Ecx) rest h = refl
 decoded-spelling (instr.Push Edx) rest h = refl

@@ -59,6 +59,7 @@ system_leads ss m =
 effect_leads : (i : Instr) (m : State) → LeadsTo (shapes m.regions) (effect i m)
 effect_leads (instr.LoadImm to value) m = refl
 effect_leads (instr.Store to from) m = refl
+effect_leads (instr.Lea to scale plus) m = refl
 effect_leads (instr.Push from) m = accessed_leads (shapes m.regions) _ (pushed (past 1 m) (register m from)) (pushed_shapes (past 1 m) (register m from))
 effect_leads (instr.Pop to) m = accessed_leads (shapes m.regions) _ _ (loaded_shapes (shapes m.regions) (λ word. with_register (popped (past 1 m)) to word) (λ word. refl) (top_word m))
 effect_leads (instr.Call by) m =

@@ -1,6 +1,6 @@
 // The instructions that the machine knows, and how their bytes are read.
 ghost use Rattle.std.specs.Prelude.{◌≡◌, ◌<◌, ◌++◌, List, ℕ, Some, IfSome};
-ghost use Rattle.i386_machine.specs.Instructions.{number_of, reg_of, spelling, Fits, decoded, from_opcode, load_imm, store, call, interrupt};
+ghost use Rattle.i386_machine.specs.Instructions.{number_of, reg_of, spelling, Fits, decoded, from_opcode, load_imm, store, lea, call, interrupt};
 ghost use Rattle.i386_machine.specs.Calls.{is_system_call};
 ghost use Rattle.i386_machine.specs.declared.instruction.Instr.{Instr};
 
@@ -124,6 +124,23 @@ fn store(rest: &[u8]) -> Option<Instr>
     })
 }
 
+fn lea(rest: &[u8]) -> Option<Instr>
+    ensures { result ≡ lea rest.now }
+{
+    let [modrm, sib, plus, ..] = rest else {
+        return None;
+    };
+    // a byte of displacement and a SIB byte, which names esp and no index
+    if *modrm / 64 != 1 || *modrm % 8 != 4 || *sib % 64 != 0x24 {
+        return None;
+    }
+    Some(Instr::Lea {
+        to: register_of(*modrm / 8 % 8),
+        scale: *sib / 64,
+        plus: *plus,
+    })
+}
+
 fn interrupt(rest: &[u8]) -> Option<Instr>
     ensures { result ≡ interrupt rest.now }
 {
@@ -139,6 +156,7 @@ fn from_opcode(opcode: u8, rest: &[u8]) -> Option<Instr>
     match opcode {
         0xB8..=0xBF => load_imm(register_of(opcode - 0xB8), rest),
         0x89 => store(rest),
+        0x8D => lea(rest),
         0x50..=0x57 => Some(Instr::Push {
             from: register_of(opcode - 0x50),
         }),

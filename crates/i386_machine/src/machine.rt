@@ -5,7 +5,7 @@ ghost use Rattle.i386_machine.specs.Machine.{started, stack_region, filled, regi
 ghost use Rattle.i386_machine.specs.Pending.{doing_of, Keeps, HasPlace, gone_to, runs, is_read_call};
 ghost use Rattle.i386_machine.specs.Regions.{shapes, ApartFrom, writable, byte_at};
 ghost use Rattle.i386_machine.specs.Turns.{StandsAt};
-ghost use Rattle.i386_machine.specs.Step.{Asks, Gives, Ends, Sticks, doing, effect, system_call, accessed, pushed, popped, top_word, past, answered, stepped, step};
+ghost use Rattle.i386_machine.specs.Step.{Asks, Gives, Ends, Sticks, doing, effect, sign_extended, system_call, accessed, pushed, popped, top_word, past, answered, stepped, step};
 
 use crate::event::{Cause, Event, RunEnd, Standing};
 use crate::instruction::{Instr, Reg};
@@ -44,6 +44,14 @@ pub(crate) enum Pending {
     End(u8),
     /// To stick, since there is no step.
     Stick(Cause),
+}
+
+// A byte as a signed number, as a word.
+fn sign_extended(byte: u8) -> u32
+    ensures { result ≡ sign_extended byte }
+{
+    let word = u32::from(byte);
+    if byte < 128 { word } else { word + 0xFFFF_FF00 }
 }
 
 impl Machine {
@@ -266,6 +274,12 @@ impl Machine {
                 let word = self.register(from);
                 self.set(to, word);
                 self.pass(2);
+                Pending::Nothing
+            }
+            Instr::Lea { to, plus, .. } => {
+                let word = self.register(Reg::Esp).wrapping_add(sign_extended(plus));
+                self.set(to, word);
+                self.pass(4);
                 Pending::Nothing
             }
             Instr::Push { from } => {
