@@ -117,3 +117,23 @@ fn a_call_pushes_where_it_returns(rt: HostRuntime) -> Result<(), Fail> {
     assert_eq!(rt; machine.byte_at(0xc000_0000), None);
     Ok(())
 }
+
+#[test]
+fn lea_adds_a_signed_byte_to_esp(rt: HostRuntime) -> Result<(), Fail> {
+    let table: [(&[u8], Reg, u32); 3] = [
+        // lea ecx,[esp+8]
+        (&[0x8d, 0x4c, 0x24, 8], Reg::Ecx, 0xbfff_fff8),
+        // lea eax,[esp-4]
+        (&[0x8d, 0x44, 0x24, 0xfc], Reg::Eax, 0xbfff_ffec),
+        // lea esp,[esp+eiz*8-128]
+        (&[0x8d, 0x64, 0xe4, 0x80], Reg::Esp, 0xbfff_ff70),
+    ];
+    for (code, to, want) in table {
+        assert!(rt; !code.is_empty() && code.len() <= 64);
+        let mut machine = machine_of(rt.alloc(), code)?;
+        assert_eq!(rt; machine.step(None), Event::On);
+        assert_eq!(rt; machine.register(to), want, "{code:?}");
+        assert_eq!(rt; machine.eip(), CODE + 4);
+    }
+    Ok(())
+}
