@@ -1,5 +1,5 @@
 -- Operands as ModRM, SIB and displacement name them (Intel SDM, volume 2, 2.1.5, tables 2-2 and 2-3).
-use Rattle.std.specs.Prelude.{◌≡◌, ◌≢◌, ℕ, ◌+◌, ◌%◌, ◌^◌, ◌<◌, ◌≤◌, Bool, true, false, ◌==◌, nat_lt, nat_le, ◌||◌, ◌⊎◌, if◌then◌else◌, Option, Some, None, is_some, List, [], ◌∷◌}
+use Rattle.std.specs.Prelude.{◌≡◌, ◌≢◌, ℕ, ◌+◌, ◌%◌, ◌^◌, ◌<◌, ◌≤◌, Bool, true, false, ◌==◌, nat_lt, nat_le, ◌||◌, ◌⊎◌, if◌then◌else◌, Option, Some, None, is_some, List, [], ◌∷◌, ◌++◌}
 use Rattle.cc_base.specs.Words.{word_bytes}
 use Rattle.i386_code.specs.declared.instr.Reg.{Reg}
 use Rattle.i386_code.specs.declared.instr.Reg.TheVariants.{Esp, Ebp}
@@ -99,12 +99,15 @@ sib_byte (Some index) base = fields index.shift (number_of index.register) base
 abbrev pub needs_sib : Address → Bool
 needs_sib address = is_some address.index || (base_number address.base == 4)
 
--- the bytes of an operand that the encoder chooses
-abbrev pub canonical_address : ℕ → Address → Width → List ℕ
-canonical_address field address width =
+-- ModRM and SIB of an address, and all bytes of an operand, as the encoder chooses them
+abbrev pub address_head : ℕ → Address → Width → List ℕ
+address_head field address width =
     if needs_sib address
-    then fields (mode_of address.base width) field 4 ∷ sib_byte address.index (base_number address.base) ∷ displacement_bytes width address.disp
-    else fields (mode_of address.base width) field (base_number address.base) ∷ displacement_bytes width address.disp
+    then fields (mode_of address.base width) field 4 ∷ sib_byte address.index (base_number address.base) ∷ []
+    else fields (mode_of address.base width) field (base_number address.base) ∷ []
+
+abbrev pub canonical_address : ℕ → Address → Width → List ℕ
+canonical_address field address width = address_head field address width ++ displacement_bytes width address.disp
 
 abbrev pub canonical_operand : ℕ → Rm → List ℕ
 canonical_operand field (rms.Reg reg) = fields 3 field (number_of reg) ∷ []

@@ -6,8 +6,9 @@ ghost use Rattle.i386_code.specs.Spelling.{IsAtFront, IsCutShort, IsNoInstructio
 ghost use Rattle.i386_code.specs.declared.rows.Row.TheVariants.{WithOperand};
 ghost use Rattle.i386_code.specs.Reading.{run, instr_of, finish, opened, instruction, is_byte_operand, plain_instr, word_instr, byte_instr};
 
-use crate::instr::{Decoded, Instr, Reg, Rm};
+use crate::instr::{Decoded, Instr, Rm};
 use crate::operand::{operand_at, word_at};
+use crate::proper::has_low_byte;
 use crate::rows::{
     ByteRow, Head, OperandRow, PlainRow, Row, WordRow, head_of, long_row_of, row_of,
 };
@@ -17,7 +18,7 @@ fn names_byte(operand: &Rm) -> bool
     ensures { result ≡ is_byte_operand operand.now }
 {
     match operand {
-        Rm::Reg(reg) => matches!(reg, Reg::Eax | Reg::Ecx | Reg::Edx | Reg::Ebx),
+        Rm::Reg(reg) => has_low_byte(*reg),
         Rm::Mem(_) => true,
     }
 }

@@ -1,5 +1,7 @@
 //! Instructions and what they are made of: the rows of the table, as a type.
 
+ghost use Rattle.std.specs.Prelude.{◌≡◌};
+
 /// A general register of 32 bits. The first four have a low byte of their own: al, cl, dl and bl.
 #[derive(Clone, Copy, Debug, PartialEq, Eq)]
 pub enum Reg {
@@ -11,6 +13,17 @@ pub enum Reg {
     Ebp,
     Esi,
     Edi,
+}
+
+impl Reg {
+    ghost use Rattle.i386_code.specs.Fields.{number_of};
+
+    /// The number by which ModRM, SIB and opcodes name the register, 0 to 7.
+    pub fn number(self) -> u8
+        ensures { result ≡ number_of self }
+    {
+        self as u8
+    }
 }
 
 /// The index of an address: a register other than esp, times 2 to the power of `shift`, which is at most 3.
@@ -69,6 +82,28 @@ pub enum Cond {
     Ge,
     Le,
     G,
+}
+
+impl Cond {
+    ghost use Rattle.i386_code.specs.Fields.{code_of};
+
+    /// The code by which opcodes name the condition, 0 to 15.
+    pub fn code(self) -> u8
+        ensures { result ≡ code_of self }
+    {
+        match self {
+            Cond::B => 0x2,
+            Cond::Ae => 0x3,
+            Cond::E => 0x4,
+            Cond::Ne => 0x5,
+            Cond::Be => 0x6,
+            Cond::A => 0x7,
+            Cond::L => 0xc,
+            Cond::Ge => 0xd,
+            Cond::Le => 0xe,
+            Cond::G => 0xf,
+        }
+    }
 }
 
 /// An instruction, a variant for each row of the table (docs/instructions.md).

@@ -1,10 +1,16 @@
 //! The instruction table both ways.
 #![tactic(auto)]
 
+mod code;
 mod decoder;
+mod encoder;
 mod instr;
 mod operand;
+mod proper;
 mod rows;
 
+pub use code::Code;
 pub use decoder::{decode, spellings_end};
+pub use encoder::encode;
 pub use instr::{Address, AluOp, Cond, Decoded, Instr, Reg, Rm, Scaled, ShiftOp};
+pub use proper::is_proper;
