@@ -6,3 +6,5 @@ pub mod Opcodes
 pub mod Given
 pub mod Read
 pub mod Decoding
+pub mod Canonical
+pub mod Lengths

@@ -56,7 +56,7 @@ byte_test (rms.Reg Ebp) h = absurd (omega arith)
 byte_test (rms.Reg Esi) h = absurd (omega arith)
 byte_test (rms.Reg Edi) h = absurd (omega arith)
 
-byte_proper : (rm : Rm) → ProperByte rm → ProperRm rm
+pub byte_proper : (rm : Rm) → ProperByte rm → ProperRm rm
 byte_proper (rms.Reg reg) h = tt
 byte_proper (rms.Mem address) h = h
 

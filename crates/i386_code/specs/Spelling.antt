@@ -1,6 +1,8 @@
 -- What an instruction's spellings are, which of them the encoder chooses, and what the front of some bytes is.
-use Rattle.std.specs.Prelude.{◌≡◌, ◌≢◌, ℕ, ◌≤◌, Option, Some, None, List, [], ◌∷◌, ◌++◌, length, take}
+use Rattle.std.specs.Prelude.{◌≡◌, ◌≢◌, ℕ, ◌<◌, ◌≤◌, ⊤, Option, Some, None, List, [], ◌∷◌, ◌++◌, length, take}
 use Rattle.i386_code.specs.declared.instr.Instr.{Instr}
+use Rattle.i386_code.specs.declared.instr.Decoded.{Decoded}
+use Rattle.i386_code.specs.declared.instr.Decoded.TheVariants.{Is, Short, Unknown}
 use Rattle.i386_code.specs.Proper.{Proper}
 use Rattle.i386_code.specs.Operands.{IsOperand, canonical_operand}
 use Rattle.i386_code.specs.Table.{Modrm, constant_bytes, FitsBytes, layout_of}
@@ -40,3 +42,9 @@ IsNoInstruction bytes = ((instr : Instr) (count : ℕ) → ¬ IsAtFront bytes in
 -- Both spell an instruction only if they are equal: no spelling is a proper prefix of another.
 abbrev pub NoneBeginsAnother : Type 0
 NoneBeginsAnother = (first second : Instr) (bytes more : List ℕ) → Spells first bytes → Spells second (bytes ++ more) → (more ≡ []) × (first ≡ second)
+
+-- an answer of an instruction has a length of 1 to 11 bytes
+abbrev pub HasShortLength : Decoded → Type 0
+HasShortLength (Is instr count) = (0 < count) × (count ≤ 11)
+HasShortLength Short = ⊤
+HasShortLength Unknown = ⊤

@@ -1,5 +1,5 @@
 -- The parts of an instruction as the encoder has them, seen as the table's.
-use Rattle.std.specs.Prelude.{ℕ, ◌+◌, ◌<◌, ◌≤◌, List, [], ◌∷◌, length, Option, Some, None, IfSome, is_some, if◌then◌else◌}
+use Rattle.std.specs.Prelude.{ℕ, ◌+◌, ◌^◌, ◌<◌, ◌≤◌, ⊤, List, [], ◌∷◌, length, Option, Some, None, IfSome, is_some, if◌then◌else◌}
 use Rattle.std.specs.Option.{option_map}
 use Rattle.i386_code.specs.declared.encoder.Opcode.{Opcode}
 use Rattle.i386_code.specs.declared.encoder.Opcode.TheVariants.{One, Two}
@@ -7,6 +7,8 @@ use Rattle.i386_code.specs.declared.encoder.Constant.TheVariants as constants
 use Rattle.i386_code.specs.declared.encoder.Constant as declared
 use Rattle.i386_code.specs.declared.encoder.Operand.{Operand}
 use Rattle.i386_code.specs.declared.encoder.Parts.{Parts}
+use Rattle.i386_code.specs.declared.instr.Rm.{Rm}
+use Rattle.i386_code.specs.declared.instr.Rm.TheVariants.{Reg, Mem}
 use Rattle.i386_code.specs.Proper.{ProperRm}
 use Rattle.i386_code.specs.Table.{Constant, NoConstant, OneByte, SignedByte, FourBytes, constant_bytes, Modrm, Layout}
 
@@ -25,6 +27,14 @@ modrm_of operand = option_map (λ operand. record { field = operand.field; opera
 
 abbrev pub layout : Parts → Layout
 layout parts = record { opcode = opcode_bytes parts.opcode; modrm = modrm_of parts.operand; constant = constant_of parts.constant }
+
+-- the displacement of the operand is a number of 32 bits
+abbrev pub HasWordDisp : Rm → Type 0
+HasWordDisp (Reg reg) = ⊤
+HasWordDisp (Mem address) = address.disp < 2 ^ 32
+
+abbrev pub FitsDisp : Option Modrm → Type 0
+FitsDisp modrm = IfSome modrm (λ modrm. HasWordDisp modrm.operand)
 
 -- the operand can be written, and the whole has room in 11 bytes, of which an operand takes at most 6
 pub record IsWritable (parts : Parts) : Type 0 where

@@ -1,11 +1,13 @@
 //! From bytes to instructions.
 
-ghost use Rattle.std.specs.Prelude.{◌≡◌, ◌≤◌, ◌↔◌, ℕ, Some};
+ghost use Rattle.std.specs.Prelude.{◌≡◌, ◌≤◌, ◌↔◌, ℕ, Some, length};
+ghost use Rattle.i386_code.specs.Proper.{Proper};
 ghost use Rattle.i386_code.specs.declared.instr.Instr.{Instr};
-ghost use Rattle.i386_code.specs.Spelling.{IsAtFront, IsCutShort, IsNoInstruction, NoneBeginsAnother};
+ghost use Rattle.i386_code.specs.Spelling.{IsAtFront, IsCutShort, IsNoInstruction, HasShortLength, NoneBeginsAnother, canonical};
 ghost use Rattle.i386_code.specs.declared.rows.Row.TheVariants.{WithOperand};
 ghost use Rattle.i386_code.specs.Reading.{run, instr_of, finish, opened, instruction, is_byte_operand, plain_instr, word_instr, byte_instr};
 
+use crate::encoder::encode;
 use crate::instr::{Decoded, Instr, Rm};
 use crate::operand::{operand_at, word_at};
 use crate::proper::has_low_byte;
@@ -185,8 +187,17 @@ pub fn decode(bytes: &[u8]) -> Decoded
     ensures found { (instr : Instr) (count : ℕ) → (result ≡ Decoded.Is instr count) ↔ IsAtFront bytes.now instr count }
     ensures short { (result ≡ Decoded.Short) ↔ IsCutShort bytes.now }
     ensures unknown { (result ≡ Decoded.Unknown) ↔ IsNoInstruction bytes.now }
+    ensures length { HasShortLength result }
 {
     read_instruction(bytes)
+}
+
+/// What is written for a proper instruction is read as that instruction, with its whole length.
+pub fn decode_encoded(instr: &Instr) -> Decoded
+    requires { Proper instr.now }
+    ensures { result ≡ Decoded.Is instr.now (length (canonical instr.now)) }
+{
+    decode(encode(instr).as_slice())
 }
 
 /// No spelling is a proper prefix of another, and none spells two instructions.

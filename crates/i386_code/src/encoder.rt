@@ -1,12 +1,12 @@
 //! From instructions to bytes.
 
-ghost use Rattle.std.specs.Prelude.{◌≡◌, ◌+◌, ◌<◌, ◌≤◌, ◌++◌, length, Some, None, IfSome};
+ghost use Rattle.std.specs.Prelude.{◌≡◌, ◌+◌, ◌^◌, ◌<◌, ◌≤◌, ◌++◌, length, Some, None, IfSome};
 ghost use Rattle.i386_code.specs.Fields.{fields, code_of};
 ghost use Rattle.i386_code.specs.Proper.{ProperRm, ProperAddress, Proper};
 ghost use Rattle.i386_code.specs.Operands.{is_short, width_beside, mode_of, base_number, displacement_bytes, sib_byte, address_head, canonical_address, canonical_operand};
-ghost use Rattle.i386_code.specs.Table.{alu_opcode, alu_digit, shift_digit, layout_of, constant_bytes};
+ghost use Rattle.i386_code.specs.Table.{alu_opcode, alu_digit, shift_digit, layout_of, constant_bytes, FitsBytes};
 ghost use Rattle.i386_code.specs.Spelling.{canonical, canonical_modrm, Spells};
-ghost use Rattle.i386_code.specs.Writing.{opcode_bytes, constant_of, modrm_of, layout, IsWritable};
+ghost use Rattle.i386_code.specs.Writing.{opcode_bytes, constant_of, modrm_of, layout, FitsDisp, IsWritable};
 
 use crate::code::Code;
 use crate::instr::{Address, AluOp, Cond, Instr, Reg, Rm, Scaled, ShiftOp};
@@ -246,7 +246,8 @@ fn put_address(code: &mut Code, field: u8, address: &Address)
     requires proper { ProperAddress address.now }
     requires field { field < 8 }
     requires room { length code.old + 6 ≤ 11 }
-    ensures { code.new ≡ code.old ++ canonical_address field address.now (width_beside address.now.base address.now.disp) }
+    ensures written { code.new ≡ code.old ++ canonical_address field address.now (width_beside address.now.base address.now.disp) }
+    ensures fits { address.now.disp < 2 ^ 32 }
 {
     let width = width_of(address.base, address.disp);
     put_address_head(code, field, address, width);
@@ -256,7 +257,8 @@ fn put_address(code: &mut Code, field: u8, address: &Address)
 fn put_operand(code: &mut Code, operand: &Option<Operand>)
     requires proper { IfSome operand.now (λ operand. (operand.field < 8) × ProperRm operand.rm) }
     requires room { length code.old + 6 ≤ 11 }
-    ensures { code.new ≡ code.old ++ canonical_modrm (modrm_of operand.now) }
+    ensures written { code.new ≡ code.old ++ canonical_modrm (modrm_of operand.now) }
+    ensures fits { FitsDisp (modrm_of operand.now) }
 {
     match operand {
         None => {}
@@ -267,7 +269,8 @@ fn put_operand(code: &mut Code, operand: &Option<Operand>)
 
 fn put_constant(code: &mut Code, constant: Constant)
     requires { length code.old + length (constant_bytes (constant_of constant)) ≤ 11 }
-    ensures { code.new ≡ code.old ++ constant_bytes (constant_of constant) }
+    ensures written { code.new ≡ code.old ++ constant_bytes (constant_of constant) }
+    ensures fits { FitsBytes (constant_of constant) }
 {
     match constant {
         Constant::Absent => {}
@@ -295,6 +298,7 @@ fn put_opcode(code: &mut Code, opcode: Opcode)
 pub fn encode(instr: &Instr) -> Code
     requires { Proper instr.now }
     ensures canonical { result ≡ canonical instr.now }
+    ensures spelled { Spells instr.now result }
     ensures length { length result ≤ 11 }
 {
     let parts = parts_of(instr);

@@ -10,7 +10,7 @@ mod proper;
 mod rows;
 
 pub use code::Code;
-pub use decoder::{decode, spellings_end};
+pub use decoder::{decode, decode_encoded, spellings_end};
 pub use encoder::encode;
 pub use instr::{Address, AluOp, Cond, Decoded, Instr, Reg, Rm, Scaled, ShiftOp};
 pub use proper::is_proper;
