@@ -1,8 +1,7 @@
 -- What the encoder chooses is a spelling.
-use Rattle.std.proofs.Common.{◌≡◌, ◌≢◌, ℕ, ◌+◌, ◌%◌, ◌^◌, ◌<◌, ◌≤◌, Bool, true, false, cond, ◌||◌, List, [], ◌∷◌, ◌++◌, length, Option, Some, None, is_some, ◌==◌, nat_lt, nat_le, inl, inr, refl, sym, ap, subst, ◌∙◌, arith}
+use Rattle.std.proofs.Common.{◌≡◌, ◌≢◌, ℕ, ◌%◌, ◌^◌, ◌<◌, Bool, true, false, cond, ◌||◌, [], ◌∷◌, ◌++◌, Option, Some, None, is_some, ◌==◌, inl, inr, refl, sym, ap, subst, arith}
 use Rattle.std.specs.Prelude.{IfSome}
 use Rattle.std.proofs.lemmas.Bool.Decides.{nat_tests}
-use Rattle.cc_base.specs.Words.{word_bytes}
 use Rattle.i386_code.specs.declared.instr.Reg.{Reg}
 use Rattle.i386_code.specs.declared.instr.Reg.TheVariants.{Eax, Ecx, Edx, Ebx, Esp, Ebp, Esi, Edi}
 use Rattle.i386_code.specs.declared.instr.Scaled.{Scaled}
@@ -14,8 +13,8 @@ use Rattle.i386_code.specs.declared.instr.Instr.TheVariants.{StoreByte, Store, L
 use Rattle.i386_code.specs.declared.operand.Width.{Width}
 use Rattle.i386_code.specs.declared.operand.Width.TheVariants.{Absent, Byte, Word}
 use Rattle.i386_code.specs.Fields.{number_of, fields, sign_extended}
-use Rattle.i386_code.specs.Proper.{ProperRm, ProperByte, Proper}
-use Rattle.i386_code.specs.Operands.{IsBase, IsIndex, IsDisplacement, IsOperand, is_short, width_beside, mode_of, base_number, displacement_bytes, sib_byte, needs_sib, address_head, canonical_operand}
+use Rattle.i386_code.specs.Proper.{ProperRm, Proper}
+use Rattle.i386_code.specs.Operands.{IsBase, IsIndex, IsDisplacement, IsOperand, is_short, width_beside, mode_of, base_number, displacement_bytes, sib_byte, needs_sib, canonical_operand}
 use Rattle.i386_code.specs.Table.{Modrm, FitsBytes, layout_of}
 use Rattle.i386_code.specs.Spelling.{Spells, IsModrm, canonical_modrm, canonical}
 use Rattle.i386_code.specs.Writing.{FitsDisp, HasWordDisp}
@@ -74,29 +73,29 @@ absent (Some index) e = absurd cc
 
 with_sib : (field : ℕ) (a : Address) (index : Option Scaled) → a.index ≡ index → a.disp < 2 ^ 32 → IsOperand field (rms.Mem a) (fields (mode_of a.base (width_beside a.base a.disp)) field 4 ∷ sib_byte a.index (base_number a.base) ∷ displacement_bytes (width_beside a.base a.disp) a.disp)
 with_sib field a None e fits = inr (record {
-    width = width_beside a.base a.disp;
-    mode = mode_of a.base (width_beside a.base a.disp);
-    number = base_number a.base;
-    scale = 0;
-    index_number = 4;
-    tail = displacement_bytes (width_beside a.base a.disp) a.disp;
-    base = base_chosen a.base a.disp;
-    index = subst (λ (i : Option Scaled). IsIndex i 0 4) (sym e) (omega arith, refl);
-    disp = disp_chosen a.base a.disp fits;
-    whole = ap (λ (i : Option Scaled). fields (mode_of a.base (width_beside a.base a.disp)) field 4 ∷ sib_byte i (base_number a.base) ∷ displacement_bytes (width_beside a.base a.disp) a.disp) e;
-  })
+  width = width_beside a.base a.disp;
+  mode = mode_of a.base (width_beside a.base a.disp);
+  number = base_number a.base;
+  scale = 0;
+  index_number = 4;
+  tail = displacement_bytes (width_beside a.base a.disp) a.disp;
+  base = base_chosen a.base a.disp;
+  index = subst (λ (i : Option Scaled). IsIndex i 0 4) (sym e) (omega arith, refl);
+  disp = disp_chosen a.base a.disp fits;
+  whole = ap (λ (i : Option Scaled). fields (mode_of a.base (width_beside a.base a.disp)) field 4 ∷ sib_byte i (base_number a.base) ∷ displacement_bytes (width_beside a.base a.disp) a.disp) e;
+})
 with_sib field a (Some index) e fits = inr (record {
-    width = width_beside a.base a.disp;
-    mode = mode_of a.base (width_beside a.base a.disp);
-    number = base_number a.base;
-    scale = index.shift;
-    index_number = number_of index.register;
-    tail = displacement_bytes (width_beside a.base a.disp) a.disp;
-    base = base_chosen a.base a.disp;
-    index = subst (λ (i : Option Scaled). IsIndex i index.shift (number_of index.register)) (sym e) (refl, refl);
-    disp = disp_chosen a.base a.disp fits;
-    whole = ap (λ (i : Option Scaled). fields (mode_of a.base (width_beside a.base a.disp)) field 4 ∷ sib_byte i (base_number a.base) ∷ displacement_bytes (width_beside a.base a.disp) a.disp) e;
-  })
+  width = width_beside a.base a.disp;
+  mode = mode_of a.base (width_beside a.base a.disp);
+  number = base_number a.base;
+  scale = index.shift;
+  index_number = number_of index.register;
+  tail = displacement_bytes (width_beside a.base a.disp) a.disp;
+  base = base_chosen a.base a.disp;
+  index = subst (λ (i : Option Scaled). IsIndex i index.shift (number_of index.register)) (sym e) (refl, refl);
+  disp = disp_chosen a.base a.disp fits;
+  whole = ap (λ (i : Option Scaled). fields (mode_of a.base (width_beside a.base a.disp)) field 4 ∷ sib_byte i (base_number a.base) ∷ displacement_bytes (width_beside a.base a.disp) a.disp) e;
+})
 
 operand_chosen : (field : ℕ) (rm : Rm) → ProperRm rm → HasWordDisp rm → IsOperand field rm (canonical_operand field rm)
 operand_chosen field (rms.Reg reg) proper fits = refl
@@ -109,16 +108,16 @@ operand_chosen field (rms.Mem a) proper fits = by_test (needs_sib a) refl
         let test = parts.1 in
         let other : base_number a.base ≢ 4 = grind (arith, nat_tests) in
         inl (record {
-            width = width_beside a.base a.disp;
-            mode = mode_of a.base (width_beside a.base a.disp);
-            number = base_number a.base;
-            tail = displacement_bytes (width_beside a.base a.disp) a.disp;
-            base = base_chosen a.base a.disp;
-            no_index = absent a.index parts.0;
-            no_sib = other;
-            disp = disp_chosen a.base a.disp fits;
-            whole = refl;
-          })
+          width = width_beside a.base a.disp;
+          mode = mode_of a.base (width_beside a.base a.disp);
+          number = base_number a.base;
+          tail = displacement_bytes (width_beside a.base a.disp) a.disp;
+          base = base_chosen a.base a.disp;
+          no_index = absent a.index parts.0;
+          no_sib = other;
+          disp = disp_chosen a.base a.disp fits;
+          whole = refl;
+        })
 
 modrm_chosen : (modrm : Option Modrm) → IfSome modrm (λ modrm. ProperRm modrm.operand) → FitsDisp modrm → IsModrm modrm (canonical_modrm modrm)
 modrm_chosen None proper fits = refl
@@ -156,9 +155,9 @@ proper_modrm (Interrupt number) h = tt
 
 pub canonical_spells : (instr : Instr) → Proper instr → FitsBytes (layout_of instr).constant → FitsDisp (layout_of instr).modrm → Spells instr (canonical instr)
 canonical_spells instr proper constant disp = record {
-    proper = proper;
-    operand = canonical_modrm (layout_of instr).modrm;
-    named = modrm_chosen (layout_of instr).modrm (proper_modrm instr proper) disp;
-    fits = constant;
-    whole = refl;
-  }
+  proper = proper;
+  operand = canonical_modrm (layout_of instr).modrm;
+  named = modrm_chosen (layout_of instr).modrm (proper_modrm instr proper) disp;
+  fits = constant;
+  whole = refl;
+}

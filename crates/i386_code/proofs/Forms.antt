@@ -1,24 +1,21 @@
 -- Words, displacements and operands: what their readers give, and what leads through them.
-use Rattle.std.proofs.Common.{◌≡◌, ◌≢◌, ℕ, zero, suc, ◌+◌, ◌-◌, ◌*◌, ◌/◌, ◌%◌, ◌^◌, ◌<◌, ◌≤◌, Bool, true, false, cond, eqb, List, [], ◌∷◌, ◌++◌, length, Option, Some, None, ◌==◌, ◌⊎◌, inl, inr, zero-add, refl, sym, ap, subst, ◌∙◌, arith}
-use Rattle.std.specs.Prelude.{IfSome}
+use Rattle.std.proofs.Common.{◌≡◌, ◌≢◌, ℕ, suc, ◌+◌, ◌/◌, ◌%◌, ◌^◌, ◌<◌, Bool, true, false, cond, List, [], ◌∷◌, ◌++◌, length, Option, None, ◌==◌, inl, inr, zero-add, refl, sym, ap, subst, ◌∙◌, arith}
 use Rattle.std.proofs.lemmas.Bool.Decides.{nat_tests}
-use Rattle.cc_base.specs.Words.{byte_of, join, word_bytes, join-word_bytes}
+use Rattle.cc_base.specs.Words.{join, word_bytes, join-word_bytes}
 use Rattle.i386_code.specs.declared.instr.Reg.{Reg}
-use Rattle.i386_code.specs.declared.instr.Reg.TheVariants.{Esp}
 use Rattle.i386_code.specs.declared.instr.Scaled.{Scaled}
 use Rattle.i386_code.specs.declared.instr.Address.{Address}
 use Rattle.i386_code.specs.declared.instr.Rm.{Rm}
 use Rattle.i386_code.specs.declared.instr.Rm.TheVariants as rms
 use Rattle.i386_code.specs.declared.instr.Instr.{Instr}
-use Rattle.i386_code.specs.declared.instr.Decoded.{Decoded}
 use Rattle.i386_code.specs.declared.operand.Width.{Width}
 use Rattle.i386_code.specs.declared.operand.Width.TheVariants.{Absent, Byte, Word}
 use Rattle.i386_code.specs.Fields.{number_of, reg_at, fields, sign_extended}
 use Rattle.i386_code.specs.Proper.{ProperRm}
-use Rattle.i386_code.specs.Operands.{IsBase, IsIndex, IsDisplacement, IsPlain, IsWithSib, IsOperand}
+use Rattle.i386_code.specs.Operands.{IsBase, IsDisplacement, IsPlain, IsWithSib, IsOperand}
 use Rattle.i386_code.specs.Reading.{Reader, Next, run, word, displacement, address, operand, base_at, width_at, index_at}
 use Rattle.i386_code.proofs.Readers.{Gives, IsLive, IsSure}
-use Rattle.i386_code.proofs.Numbers.{word_bytes-join, high_field, middle_field, low_field, fields_of, number_below, reg_at-number_of, number_of-reg_at, based, BaseIs, base_back, IndexIs, indexed, index_back}
+use Rattle.i386_code.proofs.Numbers.{word_bytes-join, high_field, middle_field, low_field, fields_of, number_below, reg_at-number_of, number_of-reg_at, based, BaseIs, base_back, indexed, index_back}
 
 pub gives_word : (go : ℕ → Reader) (P : List ℕ → Instr → Type 0) → ((value : ℕ) → value < 2 ^ 32 → Gives (go value) (λ s i. P (word_bytes value ++ s) i)) → Gives (word go) P
 unfolding word

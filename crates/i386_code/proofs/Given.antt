@@ -1,24 +1,19 @@
 -- The reader of instructions reads the table's spellings, and each of them.
-use Rattle.std.proofs.Common.{◌≡◌, ◌≢◌, ℕ, ℤ, zero, suc, ◌+◌, ◌/◌, ◌%◌, ◌^◌, ◌<◌, ◌≤◌, Bool, true, false, cond, if◌then◌else◌, List, [], ◌∷◌, ◌++◌, length, Option, Some, None, ◌==◌, nat_lt, zero-add, refl, sym, ap, subst, ◌∙◌, arith, w8, Fits, FitsSigned}
+use Rattle.std.proofs.Common.{◌≡◌, ℕ, zero, suc, ◌+◌, ◌/◌, ◌%◌, ◌<◌, Bool, true, false, cond, if◌then◌else◌, List, [], ◌∷◌, ◌++◌, Option, Some, None, ◌==◌, nat_lt, refl, sym, ap, subst, arith, w8, FitsSigned}
 use Rattle.std.specs.Option.{option_map}
 use Rattle.std.specs.Int.{cast_signed, cast_unsigned}
 use Rattle.std.proofs.Math.Facts.{sfits_to_z}
-use Rattle.std.proofs.lemmas.Int.{to_z-of_z, of_z-to_z}
+use Rattle.std.proofs.lemmas.Int.{of_z-to_z}
 use Rattle.std.proofs.lemmas.Bool.Decides.{nat_tests}
-use Rattle.cc_base.specs.Words.{join, word_bytes}
-use Rattle.i386_code.specs.declared.instr.Reg.{Reg}
 use Rattle.i386_code.specs.declared.instr.Reg.TheVariants.{Eax, Ecx, Edx, Ebx, Esp, Ebp, Esi, Edi}
-use Rattle.i386_code.specs.declared.instr.Address.{Address}
 use Rattle.i386_code.specs.declared.instr.Rm.{Rm}
 use Rattle.i386_code.specs.declared.instr.Rm.TheVariants as rms
 use Rattle.i386_code.specs.declared.instr.AluOp.{AluOp}
-use Rattle.i386_code.specs.declared.instr.AluOp.TheVariants.{Add, Sub, And, Or, Xor, Cmp, Test}
+use Rattle.i386_code.specs.declared.instr.AluOp.TheVariants.{Add, Sub, And, Cmp}
 use Rattle.i386_code.specs.declared.instr.ShiftOp.{ShiftOp}
 use Rattle.i386_code.specs.declared.instr.ShiftOp.TheVariants.{Shl, Shr, Sar}
 use Rattle.i386_code.specs.declared.instr.Instr.{Instr}
-use Rattle.i386_code.specs.declared.instr.Instr.TheVariants.{StoreByte, Store, Load, LoadImm, StoreImm, ZeroByte, SignByte, Lea, Alu, AluImm, AluShort, Mul, Not, Neg, Div, SignDiv, Cdq, Shift, Push, Pop, Call, Jump, JumpIf, JumpShort, JumpIfShort, SetIf, Ret, Interrupt}
-use Rattle.i386_code.specs.declared.instr.Decoded.{Decoded}
-use Rattle.i386_code.specs.declared.instr.Decoded.TheVariants.{Is}
+use Rattle.i386_code.specs.declared.instr.Instr.TheVariants.{StoreByte, ZeroByte, SignByte, SetIf}
 use Rattle.i386_code.specs.declared.rows.Row.{Row}
 use Rattle.i386_code.specs.declared.rows.Row.TheVariants.{Plain, WithWord, WithByte, WithOperand}
 use Rattle.i386_code.specs.declared.rows.PlainRow.TheVariants as plains
@@ -29,16 +24,16 @@ use Rattle.i386_code.specs.declared.rows.OperandRow.TheVariants as operands
 use Rattle.i386_code.specs.declared.rows.Head.{Head}
 use Rattle.i386_code.specs.declared.rows.Head.TheVariants as heads
 use Rattle.i386_code.specs.Fields.{number_of, reg_at, code_of}
-use Rattle.i386_code.specs.Proper.{HasLowByte, ProperRm, ProperByte, TakesConstant}
+use Rattle.i386_code.specs.Proper.{ProperRm, ProperByte, TakesConstant}
 use Rattle.i386_code.specs.Operands.{IsOperand}
-use Rattle.i386_code.specs.Table.{alu_opcode, alu_digit, shift_digit}
+use Rattle.i386_code.specs.Table.{alu_digit, shift_digit}
 use Rattle.i386_code.specs.Spelling.{Spells}
 use Rattle.i386_code.specs.Rows.{row_at, long_row_at, alu_at, shift_at, unary_at, head_at}
-use Rattle.i386_code.specs.Reading.{Reader, Done, Fail, Next, run, word, operand, is_byte_operand, instr_of, ended, finish, begun, word_instr, byte_instr, opened, instruction, displacement}
-use Rattle.i386_code.proofs.Readers.{Gives, IsLive, IsSure}
-use Rattle.i386_code.proofs.Numbers.{number_below, number_of-reg_at, reg_at-number_of}
-use Rattle.i386_code.proofs.Forms.{gives_word, gives_operand, word_back, operand_leads, live_word, sure_word, sure_operand}
-use Rattle.i386_code.proofs.Opcodes.{opcode_of, row_back, long_row_back, opened_at}
+use Rattle.i386_code.specs.Reading.{Next, is_byte_operand, ended, finish, begun, opened, instruction}
+use Rattle.i386_code.proofs.Readers.{Gives}
+use Rattle.i386_code.proofs.Numbers.{number_of-reg_at}
+use Rattle.i386_code.proofs.Forms.{gives_word, gives_operand}
+use Rattle.i386_code.proofs.Opcodes.{opcode_of, row_back, long_row_back}
 
 -- a byte with a sign, there and back
 signed_fits : (b : ℕ) → b < 256 → FitsSigned w8 (cast_signed w8 b)

@@ -1,5 +1,5 @@
 -- How long spellings are.
-use Rattle.std.proofs.Common.{◌≡◌, ℕ, ◌+◌, ◌<◌, ◌≤◌, List, [], ◌∷◌, ◌++◌, length, take, Option, Some, None, is_some, if◌then◌else◌, inl, inr, refl, sym, ap, subst, ◌∙◌, arith, length-append}
+use Rattle.std.proofs.Common.{◌≡◌, ℕ, ◌+◌, ◌<◌, ◌≤◌, List, ◌++◌, length, take, Option, Some, None, is_some, if◌then◌else◌, inl, inr, ap, ◌∙◌, arith, length-append}
 use Rattle.std.proofs.lemmas.List.{length-take-le}
 use Rattle.i386_code.specs.declared.instr.Rm.{Rm}
 use Rattle.i386_code.specs.declared.instr.Rm.TheVariants as rms

@@ -1,7 +1,7 @@
 -- Numbers: bytes of words, fields of ModRM and SIB, and what they stand for.
-use Rattle.std.proofs.Common.{◌≡◌, ◌≢◌, ℕ, zero, suc, ◌+◌, ◌-◌, ◌*◌, ◌/◌, ◌%◌, ◌^◌, ◌<◌, ◌≤◌, Bool, true, false, List, [], ◌∷◌, ◌++◌, length, Option, Some, None, ◌==◌, refl, sym, ap, subst, ◌∙◌, arith}
+use Rattle.std.proofs.Common.{◌≡◌, ◌≢◌, ℕ, zero, suc, ◌/◌, ◌%◌, ◌<◌, ◌≤◌, [], ◌∷◌, Option, Some, None, refl, arith}
 use Rattle.std.specs.Prelude.{IfSome}
-use Rattle.cc_base.specs.Words.{byte_of, join, word_bytes}
+use Rattle.cc_base.specs.Words.{join, word_bytes}
 use Rattle.i386_code.specs.declared.instr.Reg.{Reg}
 use Rattle.i386_code.specs.declared.instr.Reg.TheVariants.{Eax, Ecx, Edx, Ebx, Esp, Ebp, Esi, Edi}
 use Rattle.i386_code.specs.declared.instr.Scaled.{Scaled}

@@ -1,8 +1,7 @@
 -- Laws of readers: what more bytes change, what is given, and where bytes are missing.
-use Rattle.std.proofs.Common.{◌≡◌, ◌≢◌, ℕ, zero, suc, ◌+◌, ◌<◌, ◌≤◌, List, [], ◌∷◌, ◌++◌, length, take, get_or, refl, sym, ap, subst, ◌∙◌, arith}
+use Rattle.std.proofs.Common.{◌≡◌, ◌≢◌, ℕ, zero, suc, ◌+◌, ◌<◌, ◌≤◌, List, [], ◌∷◌, ◌++◌, length, take, get_or, refl, subst, arith}
 use Rattle.i386_code.specs.declared.instr.Instr.{Instr}
-use Rattle.i386_code.specs.declared.instr.Decoded.{Decoded}
-use Rattle.i386_code.specs.declared.instr.Decoded.TheVariants.{Is, Short, Unknown}
+use Rattle.i386_code.specs.declared.instr.Decoded.TheVariants.{Is, Short}
 use Rattle.i386_code.specs.Reading.{Reader, Done, Fail, Next, run}
 
 abbrev pub AreBytes : List ℕ → Type 0

@@ -1,9 +1,9 @@
 -- What runs of readers come to, by the functions that say what stands at the front.
-use Rattle.std.proofs.Common.{◌≡◌, ℕ, zero, suc, ◌+◌, ◌-◌, ◌*◌, ◌/◌, ◌%◌, ◌<◌, ◌≤◌, Bool, true, false, cond, eqb, ltb, List, [], ◌∷◌, ◌++◌, length, get_or, slice_index, take, drop, Option, Some, None, ◌==◌, nat_lt, refl, sym, ap, ◌∙◌, arith, add-zero, add-one, add-suc}
+use Rattle.std.proofs.Common.{◌≡◌, ℕ, suc, ◌+◌, ◌/◌, ◌%◌, ◌≤◌, Bool, true, false, cond, List, [], ◌∷◌, length, get_or, slice_index, drop, Option, Some, None, ◌==◌, nat_lt, refl, sym, ap, ◌∙◌, arith, add-zero, add-one}
 use Rattle.std.proofs.lemmas.Bool.Decides.{nat_tests}
 use Rattle.cc_base.specs.Words.{join}
 use Rattle.i386_code.specs.declared.instr.Decoded.{Decoded}
-use Rattle.i386_code.specs.declared.instr.Decoded.TheVariants.{Is, Short, Unknown}
+use Rattle.i386_code.specs.declared.instr.Decoded.TheVariants.{Short}
 use Rattle.std.specs.Option.{option_map}
 use Rattle.i386_code.specs.declared.instr.Scaled.{Scaled}
 use Rattle.i386_code.specs.declared.instr.Rm.{Rm}
@@ -11,7 +11,7 @@ use Rattle.i386_code.specs.declared.instr.Rm.TheVariants.{Reg, Mem}
 use Rattle.i386_code.specs.declared.operand.Width.{Width}
 use Rattle.i386_code.specs.declared.operand.Width.TheVariants.{Absent, Byte, Word}
 use Rattle.i386_code.specs.Fields.{reg_at, sign_extended}
-use Rattle.i386_code.specs.Reading.{base_at, width_at, index_at, behind, Reader, Done, Fail, Next, run, word, displacement, address, operand, word_of, displacement_of, address_of, operand_of}
+use Rattle.i386_code.specs.Reading.{base_at, width_at, index_at, behind, Reader, Next, run, word, displacement, address, operand, word_of, displacement_of, address_of, operand_of}
 
 no_fewer : (n k : ℕ) → k ≤ n → nat_lt n k ≡ false
 no_fewer n k h = grind (arith, nat_tests)

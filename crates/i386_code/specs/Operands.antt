@@ -1,8 +1,8 @@
 -- Operands as ModRM, SIB and displacement name them (Intel SDM, volume 2, 2.1.5, tables 2-2 and 2-3).
-use Rattle.std.specs.Prelude.{◌≡◌, ◌≢◌, ℕ, ◌+◌, ◌%◌, ◌^◌, ◌<◌, ◌≤◌, Bool, true, false, ◌==◌, nat_lt, nat_le, ◌||◌, ◌⊎◌, if◌then◌else◌, Option, Some, None, is_some, List, [], ◌∷◌, ◌++◌}
+use Rattle.std.specs.Prelude.{◌≡◌, ◌≢◌, ℕ, ◌%◌, ◌^◌, ◌<◌, Bool, ◌==◌, nat_lt, nat_le, ◌||◌, ◌⊎◌, if◌then◌else◌, Option, Some, None, is_some, List, [], ◌∷◌, ◌++◌}
 use Rattle.cc_base.specs.Words.{word_bytes}
 use Rattle.i386_code.specs.declared.instr.Reg.{Reg}
-use Rattle.i386_code.specs.declared.instr.Reg.TheVariants.{Esp, Ebp}
+use Rattle.i386_code.specs.declared.instr.Reg.TheVariants.{Ebp}
 use Rattle.i386_code.specs.declared.instr.Scaled.{Scaled}
 use Rattle.i386_code.specs.declared.instr.Address.{Address}
 use Rattle.i386_code.specs.declared.instr.Rm.{Rm}

@@ -1,6 +1,6 @@
 -- Which instructions stand in the table: one-byte registers are al, cl, dl and bl, the operation has a digit where the
 -- row wants one, no index is esp, and no shift of an index is above 3.
-use Rattle.std.specs.Prelude.{◌≡◌, ◌≢◌, ℕ, ◌<◌, ◌≤◌, ⊤, Option, IfSome}
+use Rattle.std.specs.Prelude.{◌≢◌, ◌<◌, ◌≤◌, ⊤, IfSome}
 use Rattle.i386_code.specs.declared.instr.Reg.{Reg}
 use Rattle.i386_code.specs.declared.instr.Reg.TheVariants.{Esp}
 use Rattle.i386_code.specs.declared.instr.Address.{Address}

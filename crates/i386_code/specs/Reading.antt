@@ -1,6 +1,6 @@
 -- Reading byte by byte: a reader is done with an instruction, fails, or goes on with one more byte. The decoder is a
 -- reader; the laws in proofs/ say that it reads the table's spellings and no others.
-use Rattle.std.specs.Prelude.{ℕ, zero, suc, ◌+◌, ◌/◌, ◌%◌, Bool, true, ◌==◌, nat_lt, ◌&&◌, if◌then◌else◌, Option, Some, None, List, [], ◌∷◌, length, slice_index, drop}
+use Rattle.std.specs.Prelude.{ℕ, suc, ◌+◌, ◌/◌, ◌%◌, Bool, true, ◌==◌, nat_lt, ◌&&◌, if◌then◌else◌, Option, Some, None, List, [], ◌∷◌, length, slice_index, drop}
 use Rattle.std.specs.Option.{option_map}
 use Rattle.std.specs.Int.{w8, cast_signed}
 use Rattle.cc_base.specs.Words.{join}

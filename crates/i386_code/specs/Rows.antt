@@ -14,7 +14,7 @@ use Rattle.i386_code.specs.declared.rows.OperandRow.{OperandRow}
 use Rattle.i386_code.specs.declared.rows.OperandRow.TheVariants as operands
 use Rattle.i386_code.specs.declared.rows.Head.{Head}
 use Rattle.i386_code.specs.declared.rows.Head.TheVariants as heads
-use Rattle.i386_code.specs.Fields.{reg_at, number_of, cond_at}
+use Rattle.i386_code.specs.Fields.{reg_at, cond_at}
 
 -- the row of an opcode of one byte
 unfoldable pub row_at : ℕ → Option Row

@@ -1,5 +1,5 @@
 -- What an instruction's spellings are, which of them the encoder chooses, and what the front of some bytes is.
-use Rattle.std.specs.Prelude.{◌≡◌, ◌≢◌, ℕ, ◌<◌, ◌≤◌, ⊤, Option, Some, None, List, [], ◌∷◌, ◌++◌, length, take}
+use Rattle.std.specs.Prelude.{◌≡◌, ◌≢◌, ℕ, ◌<◌, ◌≤◌, ⊤, Option, Some, None, List, [], ◌++◌, length, take}
 use Rattle.i386_code.specs.declared.instr.Instr.{Instr}
 use Rattle.i386_code.specs.declared.instr.Decoded.{Decoded}
 use Rattle.i386_code.specs.declared.instr.Decoded.TheVariants.{Is, Short, Unknown}

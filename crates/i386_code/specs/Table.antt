@@ -1,7 +1,7 @@
 -- The instruction table: opcode, ModRM and constant of each instruction, a line for each row (Intel SDM, volume 2, chapters
 -- 3 to 5, under MOV, MOVZX, MOVSX, LEA, ADD, SUB, AND, OR, XOR, CMP, TEST, IMUL, NOT, NEG, DIV, IDIV, CWD, SAL,
 -- PUSH, POP, CALL, JMP, Jcc, SETcc, RET and INT).
-use Rattle.std.specs.Prelude.{◌≡◌, ℕ, ℤ, ◌+◌, ◌^◌, ◌<◌, ⊤, FitsSigned, Option, Some, None, List, [], ◌∷◌}
+use Rattle.std.specs.Prelude.{ℕ, ℤ, ◌+◌, ◌^◌, ◌<◌, ⊤, FitsSigned, Option, Some, None, List, [], ◌∷◌}
 use Rattle.std.specs.Int.{w8, cast_unsigned}
 use Rattle.cc_base.specs.Words.{word_bytes}
 use Rattle.i386_code.specs.declared.instr.Rm.{Rm}

@@ -1,5 +1,5 @@
 -- The parts of an instruction as the encoder has them, seen as the table's.
-use Rattle.std.specs.Prelude.{ℕ, ◌+◌, ◌^◌, ◌<◌, ◌≤◌, ⊤, List, [], ◌∷◌, length, Option, Some, None, IfSome, is_some, if◌then◌else◌}
+use Rattle.std.specs.Prelude.{ℕ, ◌+◌, ◌^◌, ◌<◌, ◌≤◌, ⊤, List, [], ◌∷◌, length, Option, IfSome, is_some, if◌then◌else◌}
 use Rattle.std.specs.Option.{option_map}
 use Rattle.i386_code.specs.declared.encoder.Opcode.{Opcode}
 use Rattle.i386_code.specs.declared.encoder.Opcode.TheVariants.{One, Two}

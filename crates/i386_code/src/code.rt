@@ -5,7 +5,6 @@ ghost use Rattle.cc_base.specs.Words.{word_bytes};
 
 use std::marker::Model;
 
-
 /// The bytes of an instruction, at most 11. Contracts see the list of them.
 #[derive(Drop)]
 pub struct Code {

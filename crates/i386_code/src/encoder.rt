@@ -11,7 +11,6 @@ ghost use Rattle.i386_code.specs.Writing.{opcode_bytes, constant_of, modrm_of, l
 use crate::code::Code;
 use crate::instr::{Address, AluOp, Cond, Instr, Reg, Rm, Scaled, ShiftOp};
 use crate::operand::Width;
-
 use Constant::{Absent, Byte, Signed, Word};
 use Opcode::{One, Two};
 
@@ -118,9 +117,24 @@ fn parts_of(instr: &Instr) -> Parts
         Instr::ZeroByte { to, from } => with_operand(Two(0xb6), to.number(), from, Absent),
         Instr::SignByte { to, from } => with_operand(Two(0xbe), to.number(), from, Absent),
         Instr::Lea { to, from } => with_operand(One(0x8d), to.number(), Rm::Mem(from), Absent),
-        Instr::Alu { op, to, from } => with_operand(One(alu_opcode_of(op)), from.number(), to, Absent),
-        Instr::AluImm { op, to, value } => with_operand(One(0x81), alu_digit_of(op), to, Word(value)),
-        Instr::AluShort { op, to, value } => with_operand(One(0x83), alu_digit_of(op), to, Signed(value)),
+        Instr::Alu { op, to, from } => with_operand(
+            One(alu_opcode_of(op)),
+            from.number(),
+            to,
+            Absent,
+        ),
+        Instr::AluImm { op, to, value } => with_operand(
+            One(0x81),
+            alu_digit_of(op),
+            to,
+            Word(value),
+        ),
+        Instr::AluShort { op, to, value } => with_operand(
+            One(0x83),
+            alu_digit_of(op),
+            to,
+            Signed(value),
+        ),
         Instr::Mul { to, from } => with_operand(Two(0xaf), to.number(), from, Absent),
         Instr::Not { to } => with_operand(One(0xf7), 2, to, Absent),
         Instr::Neg { to } => with_operand(One(0xf7), 3, to, Absent),
@@ -262,8 +276,18 @@ fn put_operand(code: &mut Code, operand: &Option<Operand>)
 {
     match operand {
         None => {}
-        Some(Operand { field, rm: Rm::Reg(reg) }) => code.push(fields_of(3, *field, reg.number())),
-        Some(Operand { field, rm: Rm::Mem(address) }) => put_address(code, *field, address),
+        Some(
+            Operand {
+                field,
+                rm: Rm::Reg(reg),
+            },
+        ) => code.push(fields_of(3, *field, reg.number())),
+        Some(
+            Operand {
+                field,
+                rm: Rm::Mem(address),
+            },
+        ) => put_address(code, *field, address),
     }
 }
 

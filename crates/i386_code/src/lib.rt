@@ -4,10 +4,14 @@
 mod code;
 mod decoder;
 mod encoder;
+#[cfg(test)]
+mod encodings;
 mod instr;
 mod operand;
 mod proper;
 mod rows;
+#[cfg(test)]
+mod tests;
 
 pub use code::Code;
 pub use decoder::{decode, decode_encoded, spellings_end};

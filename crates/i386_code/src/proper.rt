@@ -54,12 +54,15 @@ pub fn is_proper(instr: &Instr) -> bool
         Instr::StoreByte { to, from } => is_proper_byte(to) && has_low_byte(*from),
         Instr::ZeroByte { from, .. } | Instr::SignByte { from, .. } => is_proper_byte(from),
         Instr::SetIf { to, .. } => is_proper_byte(to),
-        Instr::Store { to, .. } | Instr::StoreImm { to, .. } | Instr::Alu { to, .. } => is_proper_rm(to),
+        Instr::Store { to, .. } | Instr::StoreImm { to, .. } | Instr::Alu { to, .. } =>
+            is_proper_rm(to),
         Instr::Load { from, .. } | Instr::Mul { from, .. } => is_proper_rm(from),
-        Instr::Not { to } | Instr::Neg { to } | Instr::Div { to } | Instr::SignDiv { to } => is_proper_rm(to),
+        Instr::Not { to } | Instr::Neg { to } | Instr::Div { to } | Instr::SignDiv { to } =>
+            is_proper_rm(to),
         Instr::Shift { to, .. } => is_proper_rm(to),
         Instr::Lea { from, .. } => is_proper_address(from),
-        Instr::AluImm { op, to, .. } | Instr::AluShort { op, to, .. } => takes_constant(*op) && is_proper_rm(to),
+        Instr::AluImm { op, to, .. } | Instr::AluShort { op, to, .. } => takes_constant(*op)
+            && is_proper_rm(to),
         Instr::LoadImm { .. } | Instr::Push { .. } | Instr::Pop { .. } => true,
         Instr::Call { .. } | Instr::Jump { .. } | Instr::JumpIf { .. } => true,
         Instr::JumpShort { .. } | Instr::JumpIfShort { .. } => true,

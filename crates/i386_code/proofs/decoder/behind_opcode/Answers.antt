@@ -1,5 +1,5 @@
 -- A word behind the opcode.
-use Rattle.std.proofs.Common.{◌≡◌, ℕ, sym, ap, ◌+◌, ◌∙◌, Some}
+use Rattle.std.proofs.Common.{sym, ap, ◌+◌, ◌∙◌, Some}
 use Rattle.i386_code.specs.declared.instr.Instr.{Instr}
 use Rattle.i386_code.specs.declared.instr.Decoded.TheVariants.{Is}
 use Rattle.i386_code.specs.declared.rows.Row.{Row}

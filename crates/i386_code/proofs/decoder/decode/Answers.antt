@@ -1,5 +1,5 @@
 -- The three answers, from the laws of the reader.
-use Rattle.std.proofs.Common.{◌≡◌, ℕ, ◌∙◌, sym, arith}
+use Rattle.std.proofs.Common.{◌∙◌, sym, arith}
 use Rattle.i386_code.proofs.Readers.{AreBytes}
 use Rattle.i386_code.proofs.Decoding.{at_front, from_front, cut_short, from_cut_short, no_instruction, from_no_instruction}
 use Rattle.i386_code.proofs.Lengths.{answer_length}

@@ -1,5 +1,5 @@
 -- The bytes spell the instruction, and all of them stand at the front.
-use Rattle.std.proofs.Common.{◌≡◌, ◌≤◌, ℕ, List, length, take, ap, sym, subst, ◌∙◌, arith}
+use Rattle.std.proofs.Common.{◌≤◌, ℕ, List, length, take, ap, sym, subst, ◌∙◌, arith}
 use Rattle.std.proofs.lemmas.List.{take_all}
 use Rattle.i386_code.specs.declared.instr.Decoded.TheVariants.{Is}
 use Rattle.i386_code.specs.Spelling.{Spells}

@@ -1,5 +1,5 @@
 -- A word behind the operand.
-use Rattle.std.proofs.Common.{◌≡◌, ℕ, sym, ap, ◌∙◌}
+use Rattle.std.proofs.Common.{sym, ap, ◌∙◌}
 use Rattle.i386_code.specs.declared.instr.Instr.TheVariants.{StoreImm, AluImm}
 use Rattle.i386_code.specs.declared.rows.Head.{Head}
 use Rattle.i386_code.specs.Reading.{Done, run, finish}

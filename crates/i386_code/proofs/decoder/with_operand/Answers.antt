@@ -3,7 +3,7 @@ use Rattle.std.proofs.Common.{◌≡◌, ℕ, ◌+◌, ◌/◌, ◌%◌, ◌-◌
 use Rattle.std.proofs.lemmas.List.{take_rest}
 use Rattle.i386_code.specs.declared.rows.Head.{Head}
 use Rattle.i386_code.specs.Rows.{head_at}
-use Rattle.i386_code.specs.Reading.{Done, run, finish, begun, operand_of}
+use Rattle.i386_code.specs.Reading.{run, finish, begun, operand_of}
 use Rattle.i386_code.proofs.Runs.{run-next, run-operand_some}
 use Rattle.i386_code.proofs.decoder.with_operand.Goals as goal
 

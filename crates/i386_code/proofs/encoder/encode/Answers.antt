@@ -1,9 +1,9 @@
 -- The canonical bytes of a proper instruction spell it.
-use Rattle.std.proofs.Common.{◌≡◌, sym, ap, subst, arith}
+use Rattle.std.proofs.Common.{◌≡◌, sym, subst, arith}
 use Rattle.std.proofs.lemmas.Grind.{common_steps}
-use Rattle.i386_code.specs.Table.{Constant, Modrm, Layout, FitsBytes, layout_of}
+use Rattle.i386_code.specs.Table.{Layout, FitsBytes, layout_of}
 use Rattle.i386_code.specs.Spelling.{Spells, canonical}
-use Rattle.i386_code.specs.Writing.{layout, FitsDisp}
+use Rattle.i386_code.specs.Writing.{FitsDisp}
 use Rattle.i386_code.proofs.Canonical.{canonical_spells}
 use Rattle.i386_code.proofs.encoder.encode.Goals as goal
 
