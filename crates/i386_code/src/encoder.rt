@@ -1,8 +1,8 @@
 //! From instructions to bytes.
 
 ghost use Rattle.std.specs.Prelude.{◌≡◌, ◌+◌, ◌^◌, ◌<◌, ◌≤◌, ◌++◌, length, Some, None, IfSome};
-ghost use Rattle.i386_code.specs.Fields.{fields, code_of};
-ghost use Rattle.i386_code.specs.Proper.{ProperRm, ProperAddress, Proper};
+ghost use Rattle.i386_code.specs.Fields.{fields};
+ghost use Rattle.i386_code.specs.Proper.{ProperRm, ProperAddress, TakesConstant, Proper};
 ghost use Rattle.i386_code.specs.Operands.{is_short, width_beside, mode_of, base_number, displacement_bytes, sib_byte, address_head, canonical_address, canonical_operand};
 ghost use Rattle.i386_code.specs.Table.{alu_opcode, alu_digit, shift_digit, layout_of, constant_bytes, FitsBytes};
 ghost use Rattle.i386_code.specs.Spelling.{canonical, canonical_modrm, Spells};
@@ -45,17 +45,17 @@ pub struct Parts {
     pub constant: Constant,
 }
 
-fn plain(opcode: u8, constant: Constant) -> Parts
-    ensures { result ≡ record { opcode = Opcode.One opcode; operand = None; constant = constant } }
+fn plain(opcode: Opcode, constant: Constant) -> Parts
+    ensures { result ≡ record { opcode = opcode; operand = None; constant = constant } }
 {
     Parts {
-        opcode: Opcode::One(opcode),
+        opcode,
         operand: None,
         constant,
     }
 }
 
-fn with_operand(opcode: Opcode, field: u8, rm: Rm, constant: Constant) -> Parts
+fn modrm(opcode: Opcode, field: u8, rm: Rm, constant: Constant) -> Parts
     ensures { result ≡ record { opcode = opcode; operand = Some (record { field = field; rm = rm }); constant = constant } }
 {
     Parts {
@@ -79,8 +79,9 @@ fn alu_opcode_of(op: AluOp) -> u8
     }
 }
 
-/// The digit of an operation with a constant. The others have none.
+/// The digit of an operation with a constant.
 fn alu_digit_of(op: AluOp) -> u8
+    requires { TakesConstant op }
     ensures { result ≡ alu_digit op }
 {
     match op {
@@ -88,7 +89,7 @@ fn alu_digit_of(op: AluOp) -> u8
         AluOp::And => 4,
         AluOp::Sub => 5,
         AluOp::Cmp => 7,
-        AluOp::Or | AluOp::Xor | AluOp::Test => 8,
+        AluOp::Or | AluOp::Xor | AluOp::Test => unreachable!(),
     }
 }
 
@@ -109,59 +110,34 @@ fn parts_of(instr: &Instr) -> Parts
     ensures writable { IsWritable result }
 {
     match *instr {
-        Instr::StoreByte { to, from } => with_operand(One(0x88), from.number(), to, Absent),
-        Instr::Store { to, from } => with_operand(One(0x89), from.number(), to, Absent),
-        Instr::Load { to, from } => with_operand(One(0x8b), to.number(), from, Absent),
-        Instr::LoadImm { to, value } => plain(0xb8 + to.number(), Word(value)),
-        Instr::StoreImm { to, value } => with_operand(One(0xc7), 0, to, Word(value)),
-        Instr::ZeroByte { to, from } => with_operand(Two(0xb6), to.number(), from, Absent),
-        Instr::SignByte { to, from } => with_operand(Two(0xbe), to.number(), from, Absent),
-        Instr::Lea { to, from } => with_operand(One(0x8d), to.number(), Rm::Mem(from), Absent),
-        Instr::Alu { op, to, from } => with_operand(
-            One(alu_opcode_of(op)),
-            from.number(),
-            to,
-            Absent,
-        ),
-        Instr::AluImm { op, to, value } => with_operand(
-            One(0x81),
-            alu_digit_of(op),
-            to,
-            Word(value),
-        ),
-        Instr::AluShort { op, to, value } => with_operand(
-            One(0x83),
-            alu_digit_of(op),
-            to,
-            Signed(value),
-        ),
-        Instr::Mul { to, from } => with_operand(Two(0xaf), to.number(), from, Absent),
-        Instr::Not { to } => with_operand(One(0xf7), 2, to, Absent),
-        Instr::Neg { to } => with_operand(One(0xf7), 3, to, Absent),
-        Instr::Div { to } => with_operand(One(0xf7), 6, to, Absent),
-        Instr::SignDiv { to } => with_operand(One(0xf7), 7, to, Absent),
-        Instr::Cdq => plain(0x99, Absent),
-        Instr::Shift { op, to } => with_operand(One(0xd3), shift_digit_of(op), to, Absent),
-        Instr::Push { from } => plain(0x50 + from.number(), Absent),
-        Instr::Pop { to } => plain(0x58 + to.number(), Absent),
-        Instr::Call { by } => plain(0xe8, Word(by)),
-        Instr::Jump { by } => plain(0xe9, Word(by)),
-        Instr::JumpIf { cond, by } => long_jump(cond, by),
-        Instr::JumpShort { by } => plain(0xeb, Signed(by)),
-        Instr::JumpIfShort { cond, by } => plain(0x70 + cond.code(), Signed(by)),
-        Instr::SetIf { cond, to } => with_operand(Two(0x90 + cond.code()), 0, to, Absent),
-        Instr::Ret => plain(0xc3, Absent),
-        Instr::Interrupt { number } => plain(0xcd, Byte(number)),
-    }
-}
-
-fn long_jump(cond: Cond, by: u32) -> Parts
-    ensures { result ≡ record { opcode = Opcode.Two (0x80 + code_of cond); operand = None; constant = Constant.Word by } }
-{
-    Parts {
-        opcode: Opcode::Two(0x80 + cond.code()),
-        operand: None,
-        constant: Constant::Word(by),
+        Instr::StoreByte { to, from } => modrm(One(0x88), from.number(), to, Absent),
+        Instr::Store { to, from } => modrm(One(0x89), from.number(), to, Absent),
+        Instr::Load { to, from } => modrm(One(0x8b), to.number(), from, Absent),
+        Instr::LoadImm { to, value } => plain(One(0xb8 + to.number()), Word(value)),
+        Instr::StoreImm { to, value } => modrm(One(0xc7), 0, to, Word(value)),
+        Instr::ZeroByte { to, from } => modrm(Two(0xb6), to.number(), from, Absent),
+        Instr::SignByte { to, from } => modrm(Two(0xbe), to.number(), from, Absent),
+        Instr::Lea { to, from } => modrm(One(0x8d), to.number(), Rm::Mem(from), Absent),
+        Instr::Alu { op, to, from } => modrm(One(alu_opcode_of(op)), from.number(), to, Absent),
+        Instr::AluImm { op, to, value } => modrm(One(0x81), alu_digit_of(op), to, Word(value)),
+        Instr::AluShort { op, to, value } => modrm(One(0x83), alu_digit_of(op), to, Signed(value)),
+        Instr::Mul { to, from } => modrm(Two(0xaf), to.number(), from, Absent),
+        Instr::Not { to } => modrm(One(0xf7), 2, to, Absent),
+        Instr::Neg { to } => modrm(One(0xf7), 3, to, Absent),
+        Instr::Div { to } => modrm(One(0xf7), 6, to, Absent),
+        Instr::SignDiv { to } => modrm(One(0xf7), 7, to, Absent),
+        Instr::Cdq => plain(One(0x99), Absent),
+        Instr::Shift { op, to } => modrm(One(0xd3), shift_digit_of(op), to, Absent),
+        Instr::Push { from } => plain(One(0x50 + from.number()), Absent),
+        Instr::Pop { to } => plain(One(0x58 + to.number()), Absent),
+        Instr::Call { by } => plain(One(0xe8), Word(by)),
+        Instr::Jump { by } => plain(One(0xe9), Word(by)),
+        Instr::JumpIf { cond, by } => plain(Two(0x80 + cond.code()), Word(by)),
+        Instr::JumpShort { by } => plain(One(0xeb), Signed(by)),
+        Instr::JumpIfShort { cond, by } => plain(One(0x70 + cond.code()), Signed(by)),
+        Instr::SetIf { cond, to } => modrm(Two(0x90 + cond.code()), 0, to, Absent),
+        Instr::Ret => plain(One(0xc3), Absent),
+        Instr::Interrupt { number } => plain(One(0xcd), Byte(number)),
     }
 }
 

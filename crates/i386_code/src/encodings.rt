@@ -1,4 +1,4 @@
-//! Encodings of GNU as, printed by bench/i386_code/encodings.py: the line, its bytes, and the instruction that it means.
+//! Encodings of GNU as, printed by tools/encodings.py: the line, its bytes, and the instruction that it means.
 use crate::{Address, AluOp, Cond, Instr, Reg, Rm, Scaled, ShiftOp};
 
 macro_rules! reg {

@@ -1,4 +1,8 @@
-//! The instruction table both ways.
+//! The instructions of the machine, both ways: `decode` from bytes, `encode` to bytes (docs/instructions.md).
+//!
+//! - Contracts speak of spellings: `Spells` in specs/Spelling.antt, over the table in specs/Table.antt and the operands'
+//!   forms in specs/Operands.antt.
+//! - `decode` takes every spelling; `encode` chooses one for each proper instruction. Neither takes memory.
 #![tactic(auto)]
 
 mod code;

@@ -1,7 +1,7 @@
 #!/usr/bin/env python3
 """Prints the rows of crates/i386_code/src/encodings.rt: what `as --32` makes of each line below.
 
-Run it as `python3 bench/i386_code/encodings.py` where GNU as and objcopy are installed.
+Run it as `python3 tools/encodings.py` where GNU as and objcopy are installed.
 """
 
 import os
