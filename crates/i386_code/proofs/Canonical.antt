@@ -51,7 +51,7 @@ base_chosen None disp = (refl, refl)
 base_chosen (Some base) disp = base_chosen_by base (disp == 0) (is_short disp)
 
 short_disp : (disp : ℕ) → disp < 2 ^ 32 → is_short disp ≡ true → disp ≡ sign_extended (disp % 256)
-short_disp disp fits e = grind (arith, nat_tests)
+short_disp disp fits e = let same : sign_extended (disp % 256) ≡ disp = grind (arith, nat_tests) in sym same
 
 disp_chosen_by : (number disp : ℕ) → disp < 2 ^ 32 → (zero five short : Bool) → (disp == 0) ≡ zero → is_short disp ≡ short → let width : Width = cond zero (cond five Byte Absent) (cond short Byte Word) in IsDisplacement width disp (displacement_bytes width disp)
 disp_chosen_by number disp fits true true short e f = let is : disp ≡ 0 = grind (arith, nat_tests) in (disp % 256, omega arith, rw is refl, refl)

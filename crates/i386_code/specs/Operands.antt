@@ -1,5 +1,5 @@
 -- Operands as ModRM, SIB and displacement name them (Intel SDM, volume 2, 2.1.5, tables 2-2 and 2-3).
-use Rattle.std.specs.Prelude.{◌≡◌, ◌≢◌, ℕ, ◌%◌, ◌^◌, ◌<◌, Bool, ◌==◌, nat_lt, nat_le, ◌||◌, ◌⊎◌, if◌then◌else◌, Option, Some, None, is_some, List, [], ◌∷◌, ◌++◌}
+use Rattle.std.specs.Prelude.{◌≡◌, ◌≢◌, ℕ, ◌%◌, ◌^◌, ◌<◌, Bool, ◌==◌, ◌||◌, ◌⊎◌, if◌then◌else◌, Option, Some, None, is_some, List, [], ◌∷◌, ◌++◌}
 use Rattle.cc_base.specs.Words.{word_bytes}
 use Rattle.i386_code.specs.declared.instr.Reg.{Reg}
 use Rattle.i386_code.specs.declared.instr.Reg.TheVariants.{Ebp}
@@ -62,11 +62,12 @@ abbrev pub IsOperand : ℕ → Rm → List ℕ → Type 0
 IsOperand field (rms.Reg reg) bytes = bytes ≡ fields 3 field (number_of reg) ∷ []
 IsOperand field (rms.Mem address) bytes = IsPlain field address bytes ⊎ IsWithSib field address bytes
 
--- Of these the encoder chooses one. The width of a displacement: none where it is 0 and the base isn't ebp, one byte
--- where the byte's sign extension is the displacement, else four; without a base four.
+-- Of these the encoder chooses one. Whether one byte has the displacement as its sign extension.
 abbrev pub is_short : ℕ → Bool
-is_short disp = nat_lt disp 0x80 || nat_le 0xffff_ff80 disp
+is_short disp = sign_extended (disp % 256) == disp
 
+-- the width of a displacement: none where it is 0 and the base isn't ebp, one byte where that is enough, else four; without
+-- a base four
 abbrev pub width_beside : Option Reg → ℕ → Width
 width_beside None disp = Word
 width_beside (Some base) disp =
