@@ -19,7 +19,7 @@ import random
 import re
 import sys
 
-rows = open(sys.argv[1]).read().split("static ENCODINGS")[1]
+rows = open(sys.argv[1]).read().split("static ENCODINGS")[1].split("= [", 1)[1]
 codes = [
     bytes(int(byte, 16) for byte in re.findall(r"0x(\w\w)\b", row))
     for row in re.findall(r"&\[([^\]]*)\],\s*Instr", rows)
@@ -62,7 +62,7 @@ fn count(bytes: &[u8]) -> (u64, u64) {
 }
 
 fn main(rt: HostRuntime) -> Result<()> {
-    let bytes = fs::read(&rt, "code.bin")?;
+    let bytes = fs::read(&rt, "data/code.bin")?;
     for _ in 0..3 {
         let start = Instant::now(&rt)?;
         let (instrs, returns) = count(bytes.as_slice());
