@@ -1,0 +1,10 @@
+pub mod Runs
+pub mod Readers
+pub mod Numbers
+pub mod Forms
+pub mod Opcodes
+pub mod Given
+pub mod Read
+pub mod Decoding
+pub mod Canonical
+pub mod Lengths
