@@ -3,3 +3,7 @@ pub mod Numbers
 pub mod Steps
 pub mod Whole
 pub mod Going
+pub mod SecondTokens
+pub mod SecondItems
+pub mod NameRules
+pub mod SecondWhole

@@ -1,3 +1,7 @@
 pub mod Tokens
 pub mod FirstForm
 pub mod Reading
+pub mod SecondForm
+pub mod SecondReading
+pub mod SecondRun
+pub mod SecondNames

@@ -4,5 +4,12 @@
 
 mod form;
 mod reading;
+mod second;
+mod second_items;
+mod second_names;
+mod second_reading;
+mod second_tokens;
 
 pub use form::{FirstForm, first_form};
+pub use second::second_form;
+pub use second_items::{Item, SecondForm, SmallStmt, SmallStmts};

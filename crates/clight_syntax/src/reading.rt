@@ -90,7 +90,7 @@ fn count_digits(text: &[u8]) -> usize
 }
 
 // The number of an `int` that the digits spell, without leading zero.
-fn from_digits(digits: &[u8]) -> Option<u32>
+pub fn from_digits(digits: &[u8]) -> Option<u32>
     ensures some { IfSome result (λ n. (digits.now ≡ decimal n) × IsInt n) }
     ensures only { (n : ℕ) → IsInt n → digits.now ≡ decimal n → result ≡ Some n }
 {
