@@ -12,8 +12,8 @@ use Rattle.i386_machine.specs.Regions.{Region, store_word}
 use Rattle.i386_machine.specs.Runs.{Run}
 use Rattle.pass_core.specs.Semantics.{iterate}
 use Rattle.ccelf_build.specs.Code.{return_code, start_code}
-use Rattle.ccelf_build.proofs.StackAndCode.{memory_of, stack_word, stack_word-other, with_word, with_word-whole, Whole, InStack, stack_word-same, Here, skip}
-use Rattle.ccelf_build.proofs.Hops.{hop, hop-goes, hop-ends, one_more, run_of, words, machine_at, doing-here, stores, reads}
+use Rattle.machine_steps.specs.StackAndCode.{memory_of, stack_word, stack_word-other, with_word, with_word-whole, Whole, InStack, stack_word-same, Here, skip}
+use Rattle.machine_steps.specs.Hops.{hop, hop-goes, hop-ends, one_more, run_of, words, machine_at, doing-here, stores, reads}
 
 some : (x : ℕ) (xs : List ℕ) → 0 < length (x ∷ xs)
 some x xs = omega arith
@@ -34,7 +34,7 @@ pub record Returned (status : ℕ) (left : List ℕ) (acts : List Act) (from : R
   pub ended : machine.standing ≡ Ended (status % 256)
   pub runs : iterate hop 6 from ≡ run_of machine left acts
 
-pub return : (code bytes : List ℕ) (e a c d b p q r status back : ℕ) (rest left : List ℕ) (acts : List Act) → length code < 1048576 → Whole bytes → status < 2 ^ 32
+pub return : (code bytes : List ℕ) (e a c d b p q r status back : ℕ) (rest left : List ℕ) (acts : List Act) → length code < 16777216 → Whole bytes → status < 2 ^ 32
     → Here code e (return_code status ++ rest) → stack_word bytes 3221225452 ≡ back → Here code back exit_code
     → Returned status left acts (run_of (machine_at code e (words a c d b 3221225448 p q r) bytes) left acts)
 return code bytes e a c d b p q r status back rest left acts short whole small h slot there =
@@ -95,7 +95,7 @@ option_map-twice : {A B C : Type 0} (f : B → C) (g : A → B) (o : Option A) �
 option_map-twice f g None = refl
 option_map-twice f g (Some x) = refl
 
-pub start : (code bytes : List ℕ) (before : ℕ) (rest left : List ℕ) (acts : List Act) → length code < 1048576 → before < 1048576 → Whole bytes
+pub start : (code bytes : List ℕ) (before : ℕ) (rest left : List ℕ) (acts : List Act) → length code < 16777216 → before < 1048576 → Whole bytes
     → Here code (134516736 + before) (start_code before) → Here code 134516736 (0x53 ∷ rest)
     → Started code (add32 (134516736 + before) 5) rest left acts (run_of (machine_at code (134516736 + before) (words 0 0 0 0 3221225456 0 0 0) bytes) left acts)
 start code bytes before rest left acts short below whole h main =

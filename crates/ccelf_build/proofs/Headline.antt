@@ -14,10 +14,11 @@ use Rattle.ccelf_build.specs.Image.{is_proper, image_in}
 use Rattle.ccelf_build.specs.Link.{linked, image_of}
 use Rattle.ccelf_build.specs.Images.{AreWords, UnitNumbers}
 use Rattle.ccelf_build.specs.ImageRun.{loaded, run_of_image, image_after}
-use Rattle.ccelf_build.proofs.StackAndCode.{Here, skip}
-use Rattle.ccelf_build.proofs.Hops.{hop, run_of, words, machine_at}
+use Rattle.machine_steps.specs.StackAndCode.{Here, skip}
+use Rattle.machine_steps.specs.Hops.{hop, run_of, words, machine_at}
 use Rattle.ccelf_build.proofs.EndSteps.{start, exit_code, Started}
-use Rattle.ccelf_build.proofs.UnitRefines.{AtItem, refines_from, after-iterate, source-iterate, unit_semantics, image_semantics, Going}
+use Rattle.ccelf_build.proofs.UnitRefines.{AtItem, refines_from, source-iterate, unit_semantics, Going}
+use Rattle.machine_steps.specs.ImageSemantics.{image_semantics, after-iterate}
 use Rattle.ccelf_build.proofs.ImageFacts.{image_in-written, HasWords}
 
 pub length-rest_code : (puts : List ℕ) (status : ℕ) → length (rest_code puts status) ≡ 26 * length puts + 7
@@ -44,6 +45,9 @@ pub short_code : (code : List ℕ) → length code ≤ 1000000 → Short code
 short_code code l =
     let h = length-text_of code in let k = length-append code (padding (length code)) in let p = length-padding (length code) in
     record { some = omega arith; padded = omega arith; text = omega arith }
+
+pub few : (code : List ℕ) → Short code → length (text_of code) < 16777216
+few code s = let b = s.text in omega arith
 
 pub linked-proper : (code : List ℕ) → Short code → is_proper (linked code) ≡ true
 linked-proper code s =
@@ -78,7 +82,7 @@ at_first puts status input s small =
     let zero_more : 134516736 ≡ 134516736 + length {A = ℕ} [] = refl in
     let at_main : Here text 134516736 (0x53 ∷ (rest_code puts status ++ tail)) = record { done = []; whole = append_assoc code (padding (length code)) (start_code before); place_is = zero_more } in
     let w : Started text (add32 (134516736 + before) 5) (rest_code puts status ++ tail) input [] (run_of (machine_at text (134516736 + before) (words 0 0 0 0 3221225456 0 0 0) (zeros 1048576)) input []) =
-    start text (zeros 1048576) before (rest_code puts status ++ tail) input [] s.text s.padded (length-zeros 1048576) at_call at_main in
+    start text (zeros 1048576) before (rest_code puts status ++ tail) input [] (few (main_code puts status) s) s.padded (length-zeros 1048576) at_call at_main in
     record {
       e = w.next;
       eax = 0;
@@ -101,7 +105,7 @@ at_first puts status input s small =
 exit_here : (code : List ℕ) → Short code → Here (text_of code) (add32 (134516736 + length (padded code)) 5) exit_code
 exit_here code s =
     let before = length (padded code) in
-    skip (text_of code) (134516736 + before) (0xe8 ∷ word_bytes (sub32 0 (before + 5))) exit_code s.text (record { done = padded code; whole = refl; place_is = refl })
+    skip (text_of code) (134516736 + before) (0xe8 ∷ word_bytes (sub32 0 (before + 5))) exit_code (few code s) (record { done = padded code; whole = refl; place_is = refl })
 
 -- two runs that are the same after each number of steps
 refines_along : (a b a' b' : ℕ → State) → ((n : ℕ) → a n ≡ a' n) → ((n : ℕ) → b n ≡ b' n) → Refines a b → Refines a' b'
@@ -117,7 +121,7 @@ loaded_refines puts status input s small status_small =
     refines_along (semantics.run_of (unit_semantics status) (Going puts [])) (semantics.run_of image_semantics (begun m input)) (source_after puts status) (λ n. seen_of (after (loaded (linked code)) input n))
     (λ n. source-iterate status n puts [])
     (λ n. ap seen_of (sym (after-iterate m input n)) ∙ ap (λ x. seen_of (after x input n)) (sym (loaded-is code)))
-    (refines_from (text_of code) status (add32 (134516736 + length (padded code)) 5) (padding (length code) ++ start_code (length (padded code))) s.text status_small (exit_here code s) puts (begun m input) 2 (at_first puts status input s small))
+    (refines_from (text_of code) status (add32 (134516736 + length (padded code)) 5) (padding (length code) ++ start_code (length (padded code))) (few code s) status_small (exit_here code s) puts (begun m input) 2 (at_first puts status input s small))
 
 -- the code of a unit is short
 pub unit_short : (puts : List ℕ) (status : ℕ) → UnitNumbers puts status → Short (main_code puts status)

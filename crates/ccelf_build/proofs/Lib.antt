@@ -1,5 +1,3 @@
-pub mod StackAndCode
-pub mod Hops
 pub mod PutSteps
 pub mod EndSteps
 pub mod UnitRefines

@@ -11,8 +11,8 @@ use Rattle.i386_machine.specs.Runs.{Run}
 use Rattle.pass_core.specs.Semantics.{iterate}
 use Rattle.ccelf_build.specs.Code.{put_code}
 use Rattle.ccelf_build.specs.SourceRun.{put_act}
-use Rattle.ccelf_build.proofs.StackAndCode.{with_word, with_word-whole, Whole, InStack, byte_at-stack, low_byte-with_word, stack_word-same, Here, skip}
-use Rattle.ccelf_build.proofs.Hops.{hop, hop-goes, hop-gives, one_more, run_of, words, machine_at, doing-here, stores, reads}
+use Rattle.machine_steps.specs.StackAndCode.{with_word, with_word-whole, Whole, InStack, byte_at-stack, low_byte-with_word, stack_word-same, Here, skip}
+use Rattle.machine_steps.specs.Hops.{hop, hop-goes, hop-gives, one_more, run_of, words, machine_at, doing-here, stores, reads}
 
 -- what comes after each instruction
 abbrev after_7 : List ℕ → List ℕ
@@ -51,7 +51,7 @@ pub record Put (code bytes : List ℕ) (e n p q r : ℕ) (rest left : List ℕ) 
   pub here : Here code next rest
   pub runs : iterate hop 8 from ≡ run_of (machine_at code next (words n 3221225444 1 1 3221225448 p q r) (with_word bytes 3221225444 n)) left (acts ++ put_act n ∷ [])
 
-pub put : (code bytes : List ℕ) (e a c d b p q r n : ℕ) (rest left : List ℕ) (acts : List Act) → length code < 1048576 → Whole bytes → n < 2 ^ 32 → Here code e (put_code n ++ rest)
+pub put : (code bytes : List ℕ) (e a c d b p q r n : ℕ) (rest left : List ℕ) (acts : List Act) → length code < 16777216 → Whole bytes → n < 2 ^ 32 → Here code e (put_code n ++ rest)
     → Put code bytes e n p q r rest left acts (run_of (machine_at code e (words a c d b 3221225448 p q r) bytes) left acts)
 put code bytes e a c d b p q r n rest left acts short whole small h =
     let e_1 = add32 e 5 in let e_2 = add32 e_1 1 in let e_3 = add32 e_2 2 in let e_4 = add32 e_3 5 in let e_5 = add32 e_4 5 in let e_6 = add32 e_5 5 in let e_7 = add32 e_6 2 in let e_8 = add32 e_7 1 in

@@ -1,5 +1,5 @@
 -- The image's bytes do what the unit means.
-use Rattle.std.specs.Prelude.{◌≡◌, ◌≢◌, ℕ, zero, suc, ◌%◌, ◌<◌, ◌^◌, List, [], ◌∷◌, ◌++◌, length, take, map, nat_le, if◌then◌else◌, slice_get, Bool}
+use Rattle.std.specs.Prelude.{◌≡◌, ◌≢◌, ℕ, zero, suc, ◌%◌, ◌<◌, ◌^◌, List, [], ◌∷◌, ◌++◌, length, take, map, nat_le, if◌then◌else◌, Bool}
 use Rattle.std.proofs.Common.{arith, ◌∙◌, ap, sym, refl, subst, lit≤, append-nil, append_assoc}
 use Rattle.std.proofs.lemmas.Bool.{le-leb}
 use Rattle.std.proofs.Math.Dec.{leb-suc-suc, leb-suc-zero}
@@ -7,19 +7,17 @@ use Rattle.cc_base.specs.declared.run.Act.{Act}
 use Rattle.cc_base.specs.declared.run.Outcome.TheVariants as outcome
 use Rattle.cc_base.specs.Runs.{State, IsPrefix}
 use Rattle.i386_machine.specs.declared.event.Standing.{Standing}
-use Rattle.i386_machine.specs.declared.event.Standing.TheVariants as standing
-use Rattle.i386_machine.specs.Machine as machine
-use Rattle.i386_machine.specs.Step.{doing_at, step, stepped}
-use Rattle.i386_machine.specs.Runs.{Run, advance, after, begun, seen_of, outcome_of, acts_of}
+use Rattle.i386_machine.specs.Runs.{Run, seen_of, outcome_of}
 use Rattle.pass_core.specs.Refines.{Refines}
 use Rattle.pass_core.specs.Semantics.{Semantics, Steady, iterate, Met, Simulates}
 use Rattle.pass_core.specs.Semantics as semantics
-use Rattle.pass_core.specs.Simulation.{simulation_from, iterate-step, IsPrefix-refl}
+use Rattle.pass_core.specs.Simulation.{simulation_from, IsPrefix-refl}
 use Rattle.ccelf_build.specs.SourceRun.{put_act}
 use Rattle.ccelf_build.specs.Code.{put_code, rest_code}
 use Rattle.ccelf_build.specs.Images.{AreWords}
-use Rattle.ccelf_build.proofs.StackAndCode.{stack_word, stack_word-other, with_word, with_word-whole, Whole, Here}
-use Rattle.ccelf_build.proofs.Hops.{hop, hop-is, run_of, words, machine_at}
+use Rattle.machine_steps.specs.StackAndCode.{stack_word, stack_word-other, with_word, with_word-whole, Whole, Here}
+use Rattle.machine_steps.specs.Hops.{hop, run_of, words, machine_at}
+use Rattle.machine_steps.specs.ImageSemantics.{image_semantics, image_steady}
 use Rattle.ccelf_build.proofs.PutSteps.{put, inside}
 use Rattle.ccelf_build.proofs.EndSteps.{return, exit_code}
 
@@ -46,9 +44,6 @@ turn_price (Over acts) = 0
 abbrev pub unit_semantics : ℕ → Semantics Source
 unit_semantics status = record { step = turn; view = source_seen status; price = turn_price }
 
-abbrev pub image_semantics : Semantics Run
-image_semantics = record { step = hop; view = seen_of; price = λ _. 1 }
-
 turn_grows : (status : ℕ) (s : Source) → IsPrefix (source_seen status s).acts (source_seen status (turn s)).acts
 turn_grows status (Going (n ∷ left) acts) = record { rest = put_act n ∷ []; whole = refl }
 turn_grows status (Going [] acts) = IsPrefix-refl acts
@@ -60,25 +55,6 @@ turn_stays status (Over acts) h = refl
 
 unit_steady : (status : ℕ) → Steady (unit_semantics status)
 unit_steady status = record { grows = turn_grows status; stays = turn_stays status }
-
-advance_grows : (r : Run) → IsPrefix (seen_of r).acts (seen_of (advance r)).acts
-advance_grows r = record { rest = acts_of (step r.machine (slice_get r.left 0)).event; whole = refl }
-
--- a machine that is over stays so
-over_at : (s : Standing) (r : Run) → r.machine.standing ≡ s → outcome_of s ≢ outcome.Running → seen_of (advance r) ≡ seen_of r
-over_at standing.Running r e h = absurd (h refl)
-over_at (standing.Ended status) r e h =
-    ap (λ d. let s = stepped d r.machine (slice_get r.left 0) in record { outcome = outcome_of s.after.standing; acts = r.acts ++ acts_of s.event }) (ap (λ x. doing_at x r.machine) e)
-    ∙ ap (λ a. record { outcome = outcome.Ended status; acts = a }) (append-nil r.acts) ∙ ap (λ x. record { outcome = outcome_of x; acts = r.acts }) (sym e)
-over_at (standing.Stuck cause) r e h =
-    ap (λ d. let s = stepped d r.machine (slice_get r.left 0) in record { outcome = outcome_of s.after.standing; acts = r.acts ++ acts_of s.event }) (ap (λ x. doing_at x r.machine) e)
-    ∙ ap (λ a. record { outcome = outcome.Wrong; acts = a }) (append-nil r.acts) ∙ ap (λ x. record { outcome = outcome_of x; acts = r.acts }) (sym e)
-
-image_steady : Steady image_semantics
-image_steady = record {
-  grows = λ r. subst (λ (x : Run). IsPrefix (seen_of r).acts (seen_of x).acts) (sym (hop-is r)) (advance_grows r);
-  stays = λ r h. ap seen_of (hop-is r) ∙ over_at r.machine.standing r refl h;
-}
 
 -- the machine stands where the code of what is left begins
 pub record AtItem (code : List ℕ) (status back : ℕ) (tail : List ℕ) (left : List ℕ) (acts : List Act) (t : Run) : Type 0 where
@@ -98,7 +74,7 @@ pub record AtItem (code : List ℕ) (status back : ℕ) (tail : List ℕ) (left 
   pub small : AreWords left
   pub is : t ≡ run_of (machine_at code e (words eax ecx edx ebx 3221225448 ebp esi edi) bytes) input acts
 
-module _ (code : List ℕ) (status back : ℕ) (tail : List ℕ) (short : length code < 1048576) (status_small : status < 2 ^ 32) (there : Here code back exit_code) where
+module _ (code : List ℕ) (status back : ℕ) (tail : List ℕ) (short : length code < 16777216) (status_small : status < 2 ^ 32) (there : Here code back exit_code) where
   abbrev Related : Source → Run → Type 0
   Related (Going left acts) t = AtItem code status back tail left acts t
   Related (Over acts) t = seen_of t ≡ source_seen status (Over acts)
@@ -145,11 +121,6 @@ module _ (code : List ℕ) (status back : ℕ) (tail : List ℕ) (short : length
   -- a run that is at the first item after some steps refines the unit
   pub refines_from : (puts : List ℕ) (t : Run) (k : ℕ) → AtItem code status back tail puts [] (iterate hop k t) → Refines (semantics.run_of (unit_semantics status) (Going puts [])) (semantics.run_of image_semantics t)
   refines_from puts t k at = simulation_from (unit_semantics status) image_semantics Related (λ _. (0, 0)) simulates (unit_steady status) image_steady (Going puts []) t k (λ _. at)
-
--- the machine's run, step by step
-pub after-iterate : (m : machine.State) (input : List ℕ) (n : ℕ) → after m input n ≡ iterate hop n (begun m input)
-after-iterate m input zero = refl
-after-iterate m input (suc n) = sym (hop-is (after m input n)) ∙ ap hop (after-iterate m input n) ∙ iterate-step hop n (begun m input)
 
 over_stays : (n : ℕ) (acts : List Act) → iterate turn n (Over acts) ≡ Over acts
 over_stays zero acts = refl

@@ -11,8 +11,8 @@ use Rattle.i386_machine.specs.Step.{Goes, Ends, doing}
 use Rattle.i386_machine.specs.Runs.{Run}
 use Rattle.pass_core.specs.Semantics.{iterate}
 use Rattle.second_code.specs.Code.{call_code}
-use Rattle.second_code.proofs.StackAndCode.{stack_word, with_word, Whole, InStack, Here, skip}
-use Rattle.second_code.proofs.Hops.{hop, hop-goes, hop-ends, one_more, run_of, words, machine_at, doing-here, calls, reads}
+use Rattle.machine_steps.specs.StackAndCode.{stack_word, with_word, Whole, InStack, Here, skip}
+use Rattle.machine_steps.specs.Hops.{hop, hop-goes, hop-ends, one_more, run_of, words, machine_at, doing-here, calls, reads}
 use Rattle.second_code.proofs.PutSteps.{lands, distance_small}
 
 some : (x : ℕ) (xs : List ℕ) → 0 < length (x ∷ xs)

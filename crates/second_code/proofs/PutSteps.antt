@@ -10,8 +10,8 @@ use Rattle.i386_machine.specs.Step.{Goes, Gives, doing, write_call}
 use Rattle.i386_machine.specs.Runs.{Run}
 use Rattle.pass_core.specs.Semantics.{iterate}
 use Rattle.second_code.specs.Code.{call_code, putbyte_code}
-use Rattle.second_code.proofs.StackAndCode.{stack_word, stack_word-other, byte-other, with_word, with_word-whole, Whole, InStack, byte_at-stack, low_byte-with_word, stack_word-same, Here, skip}
-use Rattle.second_code.proofs.Hops.{hop, hop-goes, hop-gives, one_more, run_of, words, machine_at, doing-here, pushes, calls, reads}
+use Rattle.machine_steps.specs.StackAndCode.{stack_word, stack_word-other, byte-other, with_word, with_word-whole, Whole, InStack, byte_at-stack, low_byte-with_word, stack_word-same, Here, skip}
+use Rattle.machine_steps.specs.Hops.{hop, hop-goes, hop-gives, one_more, run_of, words, machine_at, doing-here, pushes, calls, reads}
 
 some : (x : ℕ) (xs : List ℕ) → 0 < length (x ∷ xs)
 some x xs = omega arith

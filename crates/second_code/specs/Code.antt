@@ -4,10 +4,6 @@ use Rattle.cc_base.specs.Words.{word_bytes, sub32}
 use Rattle.clight_syntax.specs.declared.second_items.SmallStmt.{SmallStmt}
 use Rattle.clight_syntax.specs.declared.second_items.SmallStmt.TheVariants.{Put, Call, Return}
 
--- the address of the first byte of text
-abbrev pub text_start : ℕ
-text_start = 0x08049000
-
 -- where the functions are: of this name in this unit, and the runtime's `putbyte`
 pub record Places : Type 0 where
   pub function : ℕ → List ℕ → ℕ

@@ -10,7 +10,7 @@ use Rattle.i386_machine.specs.Step.{doing_at, step, stepped}
 use Rattle.i386_machine.specs.Runs.{Run, advance, after, begun, seen_of, outcome_of, acts_of}
 use Rattle.pass_core.specs.Semantics.{Semantics, Steady, iterate}
 use Rattle.pass_core.specs.Simulation.{iterate-step}
-use Rattle.second_code.proofs.Hops.{hop, hop-is}
+use Rattle.machine_steps.specs.Hops.{hop, hop-is}
 
 abbrev pub image_semantics : Semantics Run
 image_semantics = record { step = hop; view = seen_of; price = λ _. 1 }

@@ -5,7 +5,10 @@ use Rattle.std.proofs.lemmas.Bool.{cond-true, and_from, le-leb}
 use Rattle.std.proofs.Math.Seq.{drop-append_seam}
 use Rattle.cc_base.specs.Words.{byte_of, join, join-word_bytes, add32}
 use Rattle.i386_machine.specs.Regions.{Region, shape_of, shapes, spans, writable, readable, byte_at, word_at, store_word, peek, poke, fetch}
-use Rattle.second_code.specs.Code.{text_start}
+
+-- the address of the first byte of code
+abbrev pub text_start : ℕ
+text_start = 0x08049000
 
 -- the stack with these bytes, 1 MiB of them
 abbrev pub stack_of : List ℕ → Region

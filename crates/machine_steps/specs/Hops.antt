@@ -1,9 +1,11 @@
 -- The machine's steps on the instructions of a unit's code, one equation for each.
-use Rattle.std.specs.Prelude.{◌≡◌, ℕ, suc, ◌<◌, List, [], ◌∷◌, ◌++◌, length, Option, Some, option_map, slice_get}
+use Rattle.std.specs.Prelude.{◌≡◌, ℕ, suc, ◌<◌, List, [], ◌∷◌, ◌++◌, length, Option, Some, None, option_map, slice_get}
 use Rattle.std.proofs.Common.{◌∙◌, ap, refl, append-nil}
 use Rattle.cc_base.specs.declared.run.Act.{Act}
 use Rattle.cc_base.specs.declared.run.Act.TheVariants.{Gave}
 use Rattle.i386_machine.specs.declared.instruction.Instr.{Instr}
+use Rattle.i386_machine.specs.declared.instruction.Instr.TheVariants as instr
+use Rattle.cc_base.specs.Words.{add32, sub32}
 use Rattle.i386_machine.specs.declared.event.Standing.TheVariants as standing
 use Rattle.i386_machine.specs.Regions.{Region, word_at, store_word}
 use Rattle.i386_machine.specs.Instructions.{decoded}
@@ -11,7 +13,7 @@ use Rattle.i386_machine.specs.Machine.{State}
 use Rattle.i386_machine.specs.Step.{Doing, Goes, Gives, Ends, doing, fetched, executed, effect, accessed, answered, stepped}
 use Rattle.i386_machine.specs.Runs.{Run, advance, left_after, acts_of}
 use Rattle.pass_core.specs.Semantics.{iterate}
-use Rattle.ccelf_build.proofs.StackAndCode.{memory_of, stack_word, with_word, Whole, InStack, word_at-stack, store_word-stack, Here, fetch-here}
+use Rattle.machine_steps.specs.StackAndCode.{memory_of, stack_word, with_word, Whole, InStack, word_at-stack, store_word-stack, Here, fetch-here}
 
 -- one step. It is opaque, so that many of them are compared by their equations alone
 pub hop : Run → Run
@@ -73,3 +75,29 @@ pub reads : (code bytes registers : List ℕ) (e : ℕ) (i : Instr) (xs : List �
 reads code bytes registers e i xs top after some h dec whole inside eff =
     doing-here code bytes registers e i xs some h dec ∙ eff
     ∙ ap (λ (o : Option ℕ). accessed top (option_map after o)) (word_at-stack bytes code top whole inside)
+
+-- what is made of what is made
+option_map-twice : {A B C : Type 0} (f : B → C) (g : A → B) (o : Option A) → option_map f (option_map g o) ≡ option_map (λ x. f (g x)) o
+option_map-twice f g None = refl
+option_map-twice f g (Some x) = refl
+
+-- a machine in code, with other regions
+abbrev with_regions : List Region → ℕ → List ℕ → State
+with_regions regions e registers = record { regions = regions; registers = registers; eip = e; standing = standing.Running }
+
+-- a register is pushed
+pub pushes : (code bytes : List ℕ) (e a c d b esp p q r top word : ℕ) (i : Instr) (xs : List ℕ) → 0 < length xs → Here code e xs → decoded xs ≡ Some i → Whole bytes → InStack top 4 → sub32 esp 4 ≡ top
+    → effect i (machine_at code e (words a c d b esp p q r) bytes) ≡ accessed (sub32 esp 4) (option_map (λ (regions : List Region). with_regions regions (add32 e 1) (words a c d b (sub32 esp 4) p q r)) (store_word (memory_of bytes code) (sub32 esp 4) word))
+    → doing (machine_at code e (words a c d b esp p q r) bytes) ≡ Goes (machine_at code (add32 e 1) (words a c d b top p q r) (with_word bytes top word))
+pushes code bytes e a c d b esp p q r top word i xs some h dec whole inside lower eff =
+    stores code bytes (words a c d b esp p q r) e i xs top word (λ regions. with_regions regions (add32 e 1) (words a c d b top p q r)) some h dec whole inside
+    (eff ∙ ap (λ (t : ℕ). accessed t (option_map (λ (regions : List Region). with_regions regions (add32 e 1) (words a c d b t p q r)) (store_word (memory_of bytes code) t word))) lower)
+
+-- a function is called
+pub calls : (code bytes : List ℕ) (e a c d b esp p q r top by : ℕ) (xs : List ℕ) → 0 < length xs → Here code e xs → decoded xs ≡ Some (instr.Call by) → Whole bytes → InStack top 4 → sub32 esp 4 ≡ top
+    → doing (machine_at code e (words a c d b esp p q r) bytes) ≡ Goes (machine_at code (add32 (add32 e 5) by) (words a c d b top p q r) (with_word bytes top (add32 e 5)))
+calls code bytes e a c d b esp p q r top by xs some h dec whole inside lower =
+    let back = add32 e 5 in
+    stores code bytes (words a c d b esp p q r) e (instr.Call by) xs top back (λ regions. with_regions regions (add32 back by) (words a c d b top p q r)) some h dec whole inside
+    (ap (accessed (sub32 esp 4)) (option_map-twice (λ (s : State). record s { eip = add32 back by }) (λ (regions : List Region). with_regions regions e (words a c d b (sub32 esp 4) p q r)) (store_word (memory_of bytes code) (sub32 esp 4) back))
+    ∙ ap (λ (t : ℕ). accessed t (option_map (λ (regions : List Region). with_regions regions (add32 back by) (words a c d b t p q r)) (store_word (memory_of bytes code) t back))) lower)

@@ -1,0 +1,3 @@
+pub mod StackAndCode
+pub mod Hops
+pub mod ImageSemantics
