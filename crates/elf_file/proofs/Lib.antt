@@ -1,0 +1,17 @@
+pub mod Tables
+pub mod Joined
+pub mod Lengths
+pub mod WrittenPieces
+pub mod ViewFacts
+pub mod Entries
+pub mod ReadFacts
+pub mod SymbolsIn
+pub mod ReadLoops
+pub mod RelocsIn
+pub mod StandsFacts
+pub mod Decoded
+pub mod SizesBack
+pub mod PartsBack
+pub mod ChecksBack
+pub mod PartsForth
+pub mod ReadBack
