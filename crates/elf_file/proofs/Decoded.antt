@@ -60,7 +60,7 @@ place_read sections symbol Absolute h = refl
 half_read : (n : ℕ) → n < 2 ^ 16 → n % 256 + 256 * (n / 256 % 256) ≡ n
 half_read n h = omega arith
 
-same_symbol : (a b : SymbolPart) → a.name ≡ b.name → a.local ≡ b.local → a.kind ≡ b.kind → a.place ≡ b.place → a.value ≡ b.value → a.size ≡ b.size → a ≡ b
+pub same_symbol : (a b : SymbolPart) → a.name ≡ b.name → a.local ≡ b.local → a.kind ≡ b.kind → a.place ≡ b.place → a.value ≡ b.value → a.size ≡ b.size → a ≡ b
 same_symbol a b n l k p v s =
     ap (λ (x : List ℕ). record { name = x; local = a.local; kind = a.kind; place = a.place; value = a.value; size = a.size }) n
     ∙ ap (λ (x : Bool). record { name = b.name; local = x; kind = a.kind; place = a.place; value = a.value; size = a.size }) l

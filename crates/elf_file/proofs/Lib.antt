@@ -15,3 +15,5 @@ pub mod PartsBack
 pub mod ChecksBack
 pub mod PartsForth
 pub mod ReadBack
+pub mod TestFacts
+pub mod OneFile

@@ -75,7 +75,7 @@ relocs_back parts file is =
     ext_get_or no_reloc (relocs_in file (sizes_of parts)) parts.relocs (long ∙ all)
     (λ k h. get_or-map-range_with_len (λ index. reloc_in (reloc_bytes file (sizes_of parts) index)) 0 (sizes_of parts).text_relocs k k no_reloc (omega arith) (omega arith) ∙ reloc_back parts file is k no_reloc (omega arith))
 
-same_parts : (a b : ObjectParts) → a.text ≡ b.text → a.fixed ≡ b.fixed → a.held ≡ b.held → a.zeros ≡ b.zeros → a.symbols ≡ b.symbols → a.relocs ≡ b.relocs → a ≡ b
+pub same_parts : (a b : ObjectParts) → a.text ≡ b.text → a.fixed ≡ b.fixed → a.held ≡ b.held → a.zeros ≡ b.zeros → a.symbols ≡ b.symbols → a.relocs ≡ b.relocs → a ≡ b
 same_parts a b t f h z s r =
     let make = λ (x1 x2 x3 : List ℕ) (n : ℕ) (ss : List SymbolPart) (rs : List RelocPart). let p : ObjectParts = record { text = x1; fixed = x2; held = x3; zeros = n; symbols = ss; relocs = rs } in p in
     ap (λ (x : List ℕ). make x a.fixed a.held a.zeros a.symbols a.relocs) t

@@ -1,5 +1,5 @@
 // Numbers as bytes, the lowest first.
-ghost use Rattle.std.specs.Prelude.{◌≡◌, ◌+◌, ◌≤◌, ◌<◌, [], ◌∷◌, ◌++◌, length, replicate, OnOk};
+ghost use Rattle.std.specs.Prelude.{◌≡◌, ◌≤◌, [], ◌∷◌, ◌++◌, replicate, OnOk};
 ghost use Rattle.elf_file.specs.Places.{words_bytes, half_bytes};
 
 use byteorder::{ByteOrder, LittleEndian};

@@ -1,5 +1,5 @@
 // What stands at a place of a file.
-ghost use Rattle.std.specs.Prelude.{◌≡◌, ◌≢◌, ◌+◌, ◌/◌, ◌==◌, ◌<◌, ◌≤◌, length, slice_index};
+ghost use Rattle.std.specs.Prelude.{◌≡◌, ◌+◌, ◌==◌, ◌≤◌, length};
 ghost use Rattle.std.specs.List.{position_or_len};
 ghost use Rattle.elf_file.specs.Places.{word_at as the_word_at, half_at as the_half_at};
 ghost use Rattle.elf_file.specs.Object.{kind_of, place_of, reloc_in, name_in, bytes_in};

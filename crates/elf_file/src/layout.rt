@@ -118,6 +118,7 @@ pub(crate) fn section_headers(sizes: Sizes) -> [SectionHeader; 11]
     let fixed_relocs = RELOC_SIZE * sizes.fixed_relocs;
     let held_relocs = RELOC_SIZE * sizes.held_relocs;
     let symbols = SYMBOL_SIZE * sizes.symbols;
+    let locals = sizes.locals;
     [
         [0, SHT_NULL, 0, 0, 0, 0, 0, 0, 0, 0],
         [1, SHT_PROGBITS, TEXT, 0, TEXT_AT, text, 0, 0, 16, 0],
@@ -127,18 +128,7 @@ pub(crate) fn section_headers(sizes: Sizes) -> [SectionHeader; 11]
         [26, SHT_REL, 0, 0, at.zeros, text_relocs, 8, 1, 4, 8],
         [36, SHT_REL, 0, 0, at.fixed_relocs, fixed_relocs, 8, 2, 4, 8],
         [48, SHT_REL, 0, 0, at.held_relocs, held_relocs, 8, 3, 4, 8],
-        [
-            58,
-            SHT_SYMTAB,
-            0,
-            0,
-            at.symbols,
-            symbols,
-            9,
-            sizes.locals,
-            4,
-            16,
-        ],
+        [58, SHT_SYMTAB, 0, 0, at.symbols, symbols, 9, locals, 4, 16],
         [66, SHT_STRTAB, 0, 0, at.strings, sizes.strings, 0, 0, 1, 0],
         [74, SHT_STRTAB, 0, 0, at.names, NAMES_SIZE, 0, 0, 1, 0],
     ]

@@ -3,6 +3,7 @@
 //!
 //! - `ObjectParts` is what an object has: the contents of its sections, its symbols and its relocations.
 //! - `write_object` gives the one file that is written for such parts.
+//! - `read_object` gives a view of such a file, which copies nothing, and refuses every other one.
 #![tactic(auto)]
 
 mod bytes;
@@ -20,4 +21,7 @@ pub use parts::{
     SymbolPlace,
 };
 pub use view::{ObjectView, read_object};
-pub use write::write_object;
+pub use write::{has_one_file, write_object};
+
+#[cfg(test)]
+mod tests;

@@ -1,7 +1,6 @@
 // Reads an object from its file.
-ghost use Rattle.std.specs.Prelude.{◌≡◌, ℕ, ◌+◌, ◌-◌, ◌*◌, ◌/◌, ◌%◌, ◌^◌, ◌<◌, ◌≤◌, ◌↔◌, [], length, replicate, IsTrue, IfOk, IfSome, IfNone};
+ghost use Rattle.std.specs.Prelude.{◌≡◌, ◌+◌, ◌/◌, ◌%◌, ◌^◌, ◌<◌, ◌≤◌, ◌↔◌, [], length, IsTrue, IfOk, IfSome, IfNone};
 ghost use Rattle.elf_file.specs.Places.{Stands, word_at as word_in, half_at as half_in};
-ghost use Rattle.elf_file.specs.Layout.{file_length, places_of};
 ghost use Rattle.elf_file.specs.Written.{ZerosUpTo, symbol_entry, reloc_entry, section_names};
 ghost use Rattle.elf_file.specs.View.{IsWhole};
 ghost use Rattle.elf_file.specs.declared.layout.Sizes.{Sizes};

@@ -1,6 +1,5 @@
 // An object in its file.
-ghost use Rattle.std.specs.Prelude.{◌≡◌, ℕ, ◌+◌, ◌^◌, ◌<◌, ◌≤◌, length, IfOk, IsErrOf, MatchResult};
-ghost use Rattle.elf_file.specs.Layout.{file_length};
+ghost use Rattle.std.specs.Prelude.{◌≡◌, ◌^◌, ◌<◌, length, IfOk, IsErrOf, MatchResult};
 ghost use Rattle.elf_file.specs.Object.{Object, section_of, symbol_of, reloc_of, HasBytes, object_of};
 ghost use Rattle.elf_file.specs.Read.{IsFileOf};
 ghost use Rattle.elf_file.specs.declared.parts.ObjectParts.{ObjectParts};

@@ -1,11 +1,12 @@
 // The file of an object.
-ghost use Rattle.std.specs.Prelude.{◌≡◌, ◌≢◌, ◌+◌, ◌-◌, ◌^◌, ◌<◌, ◌≤◌, [], ◌∷◌, ◌++◌, length, All, OnOk, IfOk};
+ghost use Rattle.std.specs.Prelude.{◌≡◌, ℕ, List, ◌^◌, ◌<◌, ◌≤◌, ◌++◌, length, All, OnOk, IfOk};
 ghost use Rattle.elf_file.specs.Places.{words_bytes};
-ghost use Rattle.elf_file.specs.Layout.{file_length, places_of, file_header, section_table};
-ghost use Rattle.elf_file.specs.Written.{Written, sizes_of, kind_number, place_number, reloc_number, bind_number, symbol_entry, symbol_entries, symbol_table, string_table, reloc_entry, reloc_table, relocs_of, section_names};
+ghost use Rattle.elf_file.specs.Layout.{file_length, places_of, file_header};
+ghost use Rattle.elf_file.specs.Written.{Written, sizes_of, kind_number, place_number, reloc_number, symbol_entry, symbol_table, string_table, reloc_entry, reloc_table, relocs_of, section_names};
 ghost use Rattle.std.specs.List.{count_by, flat_map};
 ghost use Rattle.elf_file.specs.WellFormed.{WellFormed};
-ghost use Rattle.elf_file.specs.Pieces.{joined, contents, padded, tables, ending, pieces_of};
+ghost use Rattle.elf_file.specs.Pieces.{joined, contents, padded, tables, ending};
+ghost use Rattle.elf_file.specs.declared.parts.ObjectParts.{ObjectParts};
 
 use crate::bytes::{put_half, put_word, put_words, put_zeros};
 use crate::layout::{
@@ -264,3 +265,8 @@ fn put_headers(out: &mut Vec<u8>, headers: &[SectionHeader]) -> Result<(), Alloc
     }
     Ok(())
 }
+
+/// Well-formed parts have one file: what `Written` says of a file leaves none of its bytes open.
+pub fn has_one_file()
+    ensures { (parts : ObjectParts) (one other : List ℕ) → WellFormed parts → Written parts one → Written parts other → one ≡ other }
+{}
