@@ -1,0 +1,10 @@
+pub mod Places
+pub mod Layout
+pub mod Written
+pub mod WellFormed
+pub mod Pieces
+pub mod Object
+pub mod View
+pub mod Entry
+pub mod Read
+pub mod Checks

@@ -1,0 +1,11 @@
+-- What holds of the fields of a view.
+use Rattle.std.specs.Prelude.{◌≡◌, ℕ, ◌^◌, ◌<◌, List, length}
+use Rattle.elf_file.specs.Layout.{places_of, file_length}
+use Rattle.elf_file.specs.declared.layout.Sizes.{Sizes}
+use Rattle.elf_file.specs.declared.layout.Places.{Places}
+
+-- The sizes are those of the whole file, and the places follow from them.
+pub record IsWhole (file : List ℕ) (sizes : Sizes) (at : Places) : Type 0 where
+  pub whole : length file ≡ file_length sizes
+  pub small : length file < 2 ^ 32
+  pub places : at ≡ places_of sizes

@@ -1,0 +1,27 @@
+//! Object files as they are written and read: ELF of 32 bits for the i386, of type ET_REL (System V gABI, chapter 4;
+//! Intel386 supplement, chapter 4).
+//!
+//! - `ObjectParts` is what an object has: the contents of its sections, its symbols and its relocations.
+//! - `write_object` gives the one file that is written for such parts.
+//! - `read_object` gives a view of such a file, which copies nothing, and refuses every other one.
+#![tactic(auto)]
+
+mod bytes;
+mod fault;
+mod fields;
+mod layout;
+mod parts;
+mod read;
+mod view;
+mod write;
+
+pub use fault::ElfFault;
+pub use parts::{
+    KeptKind, ObjectParts, RelocKind, RelocPart, RelocParts, SymbolKind, SymbolPart, SymbolParts,
+    SymbolPlace,
+};
+pub use view::{ObjectView, read_object};
+pub use write::{has_one_file, write_object};
+
+#[cfg(test)]
+mod tests;
