@@ -67,18 +67,18 @@ pub record Exits (n : ℕ) (left : List ℕ) (acts : List Act) (from : Run) : Ty
   pub ended : machine.standing ≡ Ended (n % 256)
   pub runs : iterate hop 3 from ≡ run_of machine left acts
 
-pub exit : (code bytes : List ℕ) (e esp c d b p q r n : ℕ) (left : List ℕ) (acts : List Act) → length code < 16777216 → Here code e exit_code
+pub exit : (code bytes : List ℕ) (e esp c d b p q r n : ℕ) (rest left : List ℕ) (acts : List Act) → length code < 16777216 → Here code e (exit_code ++ rest)
     → Exits n left acts (run_of (machine_at code e (words n c d b esp p q r) bytes) left acts)
-exit code bytes e esp c d b p q r n left acts short h =
+exit code bytes e esp c d b p q r n rest left acts short h =
     let e_1 = add32 e 2 in let e_2 = add32 e_1 5 in
-    let h_1 : Here code e_1 (0xb8 ∷ 1 ∷ 0 ∷ 0 ∷ 0 ∷ 0xcd ∷ 0x80 ∷ []) = skip code e (0x89 ∷ 0xc3 ∷ []) (0xb8 ∷ 1 ∷ 0 ∷ 0 ∷ 0 ∷ 0xcd ∷ 0x80 ∷ []) short h in
-    let h_2 : Here code e_2 (0xcd ∷ 0x80 ∷ []) = skip code e_1 (0xb8 ∷ 1 ∷ 0 ∷ 0 ∷ 0 ∷ []) (0xcd ∷ 0x80 ∷ []) short h_1 in
+    let h_1 : Here code e_1 (0xb8 ∷ 1 ∷ 0 ∷ 0 ∷ 0 ∷ 0xcd ∷ 0x80 ∷ rest) = skip code e (0x89 ∷ 0xc3 ∷ []) (0xb8 ∷ 1 ∷ 0 ∷ 0 ∷ 0 ∷ 0xcd ∷ 0x80 ∷ rest) short h in
+    let h_2 : Here code e_2 (0xcd ∷ 0x80 ∷ rest) = skip code e_1 (0xb8 ∷ 1 ∷ 0 ∷ 0 ∷ 0 ∷ []) (0xcd ∷ 0x80 ∷ rest) short h_1 in
     let m_0 = machine_at code e (words n c d b esp p q r) bytes in
     let m_1 = machine_at code e_1 (words n c d n esp p q r) bytes in
     let m_2 = machine_at code e_2 (words 1 c d n esp p q r) bytes in
-    let d_0 : doing m_0 ≡ Goes m_1 = doing-here code bytes (words n c d b esp p q r) e (instr.Store Ebx Eax) exit_code (some 0x89 (0xc3 ∷ 0xb8 ∷ 1 ∷ 0 ∷ 0 ∷ 0 ∷ 0xcd ∷ 0x80 ∷ [])) h refl in
-    let d_1 : doing m_1 ≡ Goes m_2 = doing-here code bytes (words n c d n esp p q r) e_1 (instr.LoadImm Eax 1) (0xb8 ∷ 1 ∷ 0 ∷ 0 ∷ 0 ∷ 0xcd ∷ 0x80 ∷ []) (some 0xb8 (1 ∷ 0 ∷ 0 ∷ 0 ∷ 0xcd ∷ 0x80 ∷ [])) h_1 refl in
-    let d_2 : doing m_2 ≡ Ends (n % 256) = doing-here code bytes (words 1 c d n esp p q r) e_2 (instr.Interrupt 128) (0xcd ∷ 0x80 ∷ []) (some 0xcd (0x80 ∷ [])) h_2 refl in
+    let d_0 : doing m_0 ≡ Goes m_1 = doing-here code bytes (words n c d b esp p q r) e (instr.Store Ebx Eax) (exit_code ++ rest) (some 0x89 (0xc3 ∷ 0xb8 ∷ 1 ∷ 0 ∷ 0 ∷ 0 ∷ 0xcd ∷ 0x80 ∷ rest)) h refl in
+    let d_1 : doing m_1 ≡ Goes m_2 = doing-here code bytes (words n c d n esp p q r) e_1 (instr.LoadImm Eax 1) (0xb8 ∷ 1 ∷ 0 ∷ 0 ∷ 0 ∷ 0xcd ∷ 0x80 ∷ rest) (some 0xb8 (1 ∷ 0 ∷ 0 ∷ 0 ∷ 0xcd ∷ 0x80 ∷ rest)) h_1 refl in
+    let d_2 : doing m_2 ≡ Ends (n % 256) = doing-here code bytes (words 1 c d n esp p q r) e_2 (instr.Interrupt 128) (0xcd ∷ 0x80 ∷ rest) (some 0xcd (0x80 ∷ rest)) h_2 refl in
     let end : State = record m_2 { standing = Ended (n % 256) } in
     record {
       machine = end;

@@ -1,3 +1,5 @@
 pub mod PutSteps
 pub mod CallSteps
 pub mod SecondRefines
+pub mod Placing
+pub mod Linking

@@ -150,8 +150,8 @@ refines_along a b a' b' e f h =
     let p : a ≡ a' = λ i n. e n i in let q : b ≡ b' = λ i n. f n i in
     subst (λ (x : ℕ → State). Refines x b') p (subst (λ (x : ℕ → State). Refines a x) q h)
 
-module _ (units : List (List Item)) (places : Places) (code : List ℕ) (back : ℕ) (after : List ℕ) (short : length code < 16777216) (putbyte_near : places.putbyte < 2 ^ 32)
-    (runtime : Here code places.putbyte (putbyte_code ++ after)) (exit_at : Here code back exit_code)
+module _ (units : List (List Item)) (places : Places) (code : List ℕ) (back : ℕ) (after behind : List ℕ) (short : length code < 16777216) (putbyte_near : places.putbyte < 2 ^ 32)
+    (runtime : Here code places.putbyte (putbyte_code ++ after)) (exit_at : Here code back (exit_code ++ behind))
     (defined : (unit : ℕ) (name : List ℕ) (m : second.Meaning) → second.means units unit name ≡ Some m → Good m.body × (places.function unit name < 2 ^ 32) × CodeAt code places m.unit (places.function unit name) m.body) where
   abbrev Related : second.Run → Run → Type 0
   Related (second.Going [] acts) t = ⊥
@@ -310,7 +310,7 @@ module _ (units : List (List Item)) (places : Places) (code : List ℕ) (back : 
       let low = room.2.low in let high = room.2.high in let is = room.1 in
       let inside : InStack r.esp 4 = record { low = omega arith; high = omega arith } in
       let there = return code r.bytes r.e r.esp r.eax r.ecx r.edx r.ebx r.ebp r.esi r.edi n back (body_code places (places.function frame.unit) (r.e + 6) left ++ r.at.rest) r.input acts short r.whole inside small h r.returns.1 in
-      let w = exit code r.bytes back (r.esp + 4) r.ecx r.edx r.ebx r.ebp r.esi r.edi n r.input acts short exit_at in
+      let w = exit code r.bytes back (r.esp + 4) r.ecx r.edx r.ebx r.ebp r.esi r.edi n behind r.input acts short exit_at in
       ap seen_of (ap (iterate hop 5) r.is ∙ iterate-add hop 2 3 (run_of (machine_at code r.e (words r.eax r.ecx r.edx r.ebx r.esp r.ebp r.esi r.edi) r.bytes) r.input acts) ∙ ap (iterate hop 3) there ∙ w.runs)
       ∙ ap (λ (x : Standing). record { outcome = outcome_of x; acts = acts }) w.ended
 
@@ -355,7 +355,7 @@ module _ (units : List (List Item)) (places : Places) (code : List ℕ) (back : 
       record { count = w.count; relates = w.relates; within = let few = w.few in let s = spent w.count t in omega arith; falls = λ none. absurd (w.some none) }
   meets (second.Over how acts) t r running right shallow = absurd (r.1 running)
 
-  module _ (start main_at : ℕ) (from_start : back ≡ start + 5) (start_small : start + 5 < 2 ^ 32) (calls_main : Here code start (call_code main_at (start + 5) ++ exit_code))
+  module _ (start main_at : ℕ) (from_start : back ≡ start + 5) (start_small : start + 5 < 2 ^ 32) (calls_main : Here code start (call_code main_at (start + 5) ++ (exit_code ++ behind)))
       (main_defined : (m : second.Meaning) → second.main_of units ≡ Some m → Good m.body × (main_at < 2 ^ 32) × CodeAt code places m.unit main_at m.body) (stack : List ℕ) (stack_whole : Whole stack) (input : List ℕ) where
     abbrev first : Run
     first = run_of (machine_at code start (words 0 0 0 0 3221225456 0 0 0) stack) input []
@@ -382,7 +382,7 @@ module _ (units : List (List Item)) (places : Places) (code : List ℕ) (back : 
           room = fits;
           whole = with_word-whole stack 3221225452 (start + 5) stack_whole;
           ebx_fits = omega arith;
-          is = call code stack start 3221225456 3221225452 0 0 0 0 0 0 0 main_at exit_code input [] short stack_whole inside refl there.1 start_small calls_main;
+          is = call code stack start 3221225456 3221225452 0 0 0 0 0 0 0 main_at (exit_code ++ behind) input [] short stack_whole inside refl there.1 start_small calls_main;
         }
 
     entered_first : (m : second.Meaning) (b : Bool) → second.main_of units ≡ Some m → nat_le (second.needs (second.frame_of m ∷ [])) second.stack_room ≡ b

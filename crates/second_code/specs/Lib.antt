@@ -1,1 +1,4 @@
 pub mod Code
+pub mod Parts
+pub mod Placed
+pub mod LinkedUnits
