@@ -1,2 +1,7 @@
 pub mod Arithmetic
 pub mod Integers
+pub mod Names
+pub mod Blocks
+pub mod Access
+pub mod Operators
+pub mod Codes

@@ -5,8 +5,11 @@
 //! operators (`Memory::apply`) answer None exactly where the source's rules give no value.
 #![tactic(auto)]
 
+mod cells;
+mod memory;
 mod operator;
 mod value;
 
+pub use memory::Memory;
 pub use operator::{Element, Op};
 pub use value::{BlockName, Byte, Value, Width};
