@@ -1,5 +1,5 @@
 -- Loads and stores. Where the source's rules give no value there is None.
-use Rattle.std.specs.Prelude.{ℕ, ◌+◌, ◌%◌, Bool, true, false, cond, ◌&&◌, eqb, leb, List, length, get_or, set, Option, Some, None}
+use Rattle.std.specs.Prelude.{ℕ, ◌+◌, ◌%◌, Bool, false, cond, ◌&&◌, eqb, leb, List, length, get_or, set, Option, Some, None}
 use Rattle.std.specs.FinMap as map
 use Rattle.cc_base.specs.Words.{byte_of, join}
 use Rattle.block_mem.specs.Arithmetic.{signed_byte}

@@ -1,5 +1,5 @@
 -- Arithmetic on words of 32 bits. A word stands for itself or, read as signed, for a number from -2 ^ 31 to 2 ^ 31 - 1 (C11, 6.2.6.2).
-use Rattle.std.specs.Prelude.{ℕ, ◌+◌, ◌-◌, ◌*◌, ◌/◌, ◌%◌, ◌^◌, Bool, cond, ◌&&◌, ◌||◌, eqb, ltb, Option, Some, None, int_div, int_rem}
+use Rattle.std.specs.Prelude.{ℕ, ◌+◌, ◌-◌, ◌*◌, ◌/◌, ◌%◌, ◌^◌, Bool, cond, ◌&&◌, ◌||◌, eqb, ltb, int_div, int_rem}
 use Rattle.std.specs.Int.{w32, cast_signed, cast_unsigned, int_shr}
 
 -- a truth value as an `int` (C11, 6.5.8 and 6.5.9)

@@ -3,6 +3,7 @@ use Rattle.std.specs.Prelude.{◌≡◌, ℕ, zero, suc, Bool, List}
 use Rattle.std.proofs.Common.{refl}
 use Rattle.std.specs.Coded.{Coded, code_by, coded×, coded_ℕ, coded_bool, coded_list}
 use Rattle.block_mem.specs.Blocks.{Block}
+use Rattle.block_mem.specs.declared.quads.Quad.{Quad}
 use Rattle.block_mem.specs.declared.value.BlockName.{BlockName}
 use Rattle.block_mem.specs.declared.value.BlockName.TheVariants.{Global, Local}
 use Rattle.block_mem.specs.declared.value.Byte.{Byte}
@@ -53,3 +54,6 @@ coded_byte = code_by ((ℕ × ℕ × ℕ) × (ℕ × ℕ × ℕ)) (coded× coded
 
 abbrev pub coded_block : Coded Block
 coded_block = code_by (List Byte × Bool) (coded× (coded_list coded_byte) coded_bool) (λ b. (b.bytes, b.writable)) (λ p. record { bytes = p.0; writable = p.1 }) (λ _. refl)
+
+abbrev pub coded_quad : Coded Quad
+coded_quad = code_by (Byte × Byte × Byte × Byte) (code_by (Byte × (Byte × (Byte × Byte))) (coded× coded_byte (coded× coded_byte (coded× coded_byte coded_byte))) (λ p. (p.0, (p.1, (p.2, p.3)))) (λ p. (p.0, p.1.0, p.1.1.0, p.1.1.1)) (λ _. refl)) (λ q. (q.zero, q.one, q.two, q.three)) (λ p. record { zero = p.0; one = p.1; two = p.2; three = p.3 }) (λ _. refl)

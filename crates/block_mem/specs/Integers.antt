@@ -1,5 +1,5 @@
 -- The operators on integers. Where the source's rules give no value there is None.
-use Rattle.std.specs.Prelude.{ℕ, ◌+◌, ◌-◌, ◌*◌, ◌/◌, ◌%◌, Bool, cond, not, eqb, ltb, leb, Option, Some, None, int_lt, bit_and, bit_or, bit_xor}
+use Rattle.std.specs.Prelude.{ℕ, ◌/◌, ◌%◌, Bool, cond, not, eqb, ltb, leb, Option, Some, None, int_lt, bit_and, bit_or, bit_xor}
 use Rattle.std.specs.Int.{w32, cast_signed}
 use Rattle.cc_base.specs.Words.{byte_of, add32, sub32}
 use Rattle.block_mem.specs.Arithmetic.{bit, signed_byte, product32, complement32, signed_quotient, signed_remainder, has_no_quotient, shifted_left, shifted_right, shifted_right_signed}

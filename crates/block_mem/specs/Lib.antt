@@ -4,4 +4,5 @@ pub mod Names
 pub mod Blocks
 pub mod Access
 pub mod Operators
+pub mod Quads
 pub mod Codes

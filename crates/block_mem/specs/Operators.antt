@@ -1,11 +1,10 @@
 -- The operators on values. Where the source's rules give no value there is None.
-use Rattle.std.specs.Prelude.{ℕ, ◌*◌, ◌+◌, Bool, true, false, cond, ◌&&◌, not, eqb, ltb, leb, Option, Some, None, option_map}
+use Rattle.std.specs.Prelude.{ℕ, ◌*◌, Bool, true, false, cond, ◌&&◌, not, eqb, ltb, leb, Option, Some, None, option_map}
 use Rattle.cc_base.specs.Words.{add32}
 use Rattle.block_mem.specs.Arithmetic.{bit, minus32, signed_quotient}
 use Rattle.block_mem.specs.Integers.{on_word, on_words}
 use Rattle.block_mem.specs.Names.{same_name}
 use Rattle.block_mem.specs.Blocks.{Blocks, live, within, inside}
-use Rattle.block_mem.specs.declared.value.BlockName.{BlockName}
 use Rattle.block_mem.specs.declared.value.Value.{Value}
 use Rattle.block_mem.specs.declared.value.Value.TheVariants.{Int, Ptr}
 use Rattle.block_mem.specs.declared.operator.Op.{Op}

@@ -1,279 +1,150 @@
 // What a live block holds.
-ghost use Rattle.std.specs.Prelude.{◌≡◌, ◌+◌, ◌≤◌, ◌<◌, length, cond, Some, None, false, if◌then◌else◌, IfOk, set};
+ghost use Rattle.std.specs.Prelude.{◌≡◌, ◌+◌, ◌≤◌, ◌<◌, length, true, false, Some, None, if◌then◌else◌, IfOk, get_or, set};
+ghost use Rattle.cc_base.specs.Words.{byte_of};
 ghost use Rattle.block_mem.specs.Blocks.{unset_block};
-ghost use Rattle.block_mem.specs.Access.{signed_of, unsigned_of, word_of, is_zero, is_part, pointer_of, fits, read, read_in, write, written_in, put_four};
-ghost use Rattle.block_mem.specs.Names.{same_name};
+ghost use Rattle.block_mem.specs.Access.{fits, read, read_in, write, written_in, put_four};
 
-use crate::operator::signed_byte;
+use crate::access::{signed_of, unsigned_of};
+use crate::quads::{Quad, Quads};
 use crate::value::{BlockName, Byte, Value, Width};
 use std::alloc::{AllocError, Global};
 use std::marker::Model;
 
-// Whether two names are one.
-pub(crate) fn same_name(a: BlockName, b: BlockName) -> bool
-    ensures { result ≡ same_name a b }
-{
-    match (a, b) {
-        (BlockName::Global { unit: u, index: i }, BlockName::Global { unit: v, index: j }) => u == v
-            && i == j,
-        (
-            BlockName::Local {
-                activation: u,
-                index: i,
-            },
-            BlockName::Local {
-                activation: v,
-                index: j,
-            },
-        ) => u == v && i == j,
-        _ => false,
-    }
-}
-
-fn signed_of(byte: Byte) -> Option<Value>
-    ensures { result ≡ signed_of byte }
-{
-    match byte {
-        Byte::Plain(x) => Some(Value::Int(signed_byte(x))),
-        _ => None,
-    }
-}
-
-fn unsigned_of(byte: Byte) -> Option<Value>
-    ensures { result ≡ unsigned_of byte }
-{
-    match byte {
-        Byte::Plain(x) => Some(Value::Int(u32::from(x))),
-        _ => None,
-    }
-}
-
-fn word_of(p: Byte, q: Byte, r: Byte, s: Byte) -> Option<Value>
-    ensures { result ≡ word_of p q r s }
-{
-    match (p, q, r, s) {
-        (Byte::Plain(a), Byte::Plain(b), Byte::Plain(c), Byte::Plain(d)) => {
-            Some(Value::Int(u32::from_le_bytes([a, b, c, d])))
-        }
-        _ => None,
-    }
-}
-
-fn is_zero(byte: Byte) -> bool
-    ensures { result ≡ is_zero byte }
-{
-    match byte {
-        Byte::Plain(x) => x == 0,
-        _ => false,
-    }
-}
-
-fn is_part(name: BlockName, at: u32, number: u8, byte: Byte) -> bool
-    ensures { result ≡ is_part name at number byte }
-{
-    match byte {
-        Byte::Part {
-            block,
-            offset,
-            which,
-        } => { same_name(name, block) && at == offset && number == which }
-        _ => false,
-    }
-}
-
-fn pointer_of(p: Byte, q: Byte, r: Byte, s: Byte) -> Option<Value>
-    ensures { result ≡ pointer_of p q r s }
-{
-    match p {
-        Byte::Unset => None,
-        Byte::Plain(x) => {
-            if x == 0 && is_zero(q) && is_zero(r) && is_zero(s) {
-                Some(Value::Int(0))
-            } else {
-                None
-            }
-        }
-        Byte::Part {
-            block,
-            offset,
-            which,
-        } => {
-            if which == 0
-                && is_part(block, offset, 1, q)
-                && is_part(block, offset, 2, r)
-                && is_part(block, offset, 3, s)
-            {
-                Some(Value::Ptr { block, offset })
-            } else {
-                None
-            }
-        }
-    }
-}
-
+/// The bytes of a live block, and whether it is writable.
 #[derive(Drop)]
 pub(crate) struct Cells {
-    bytes: Vec<Byte>,
+    quads: Quads,
+    size: u32,
     writable: bool,
 }
 
 impl Model for Cells {
+    ghost use Rattle.std.specs.Prelude.{◌*◌, ◌≤◌, length};
     ghost use Rattle.block_mem.specs.Blocks.{Block};
     ghost use Rattle.block_mem.specs.Codes.{coded_block};
+    ghost use Rattle.block_mem.specs.Quads.{bytes_of};
 
     ghost Value = { Block };
 
     ghost coded = { coded_block };
 
-    ghost view = { λ c. record { bytes = c.bytes.items; writable = c.writable } };
+    ghost view = { λ c. record { bytes = bytes_of c.quads c.size; writable = c.writable } };
+
+    ghost invariant = { λ c. c.size ≤ 4 * length c.quads };
 }
 
-// The value at an offset, where it has one.
-fn read_at(bytes: &[Byte], offset: u32, width: Width) -> Option<Value>
-    ensures { result ≡ cond (fits width bytes.now offset) (read width bytes.now offset) None }
+fn part(block: BlockName, offset: u32, which: u8) -> Byte
+    ensures { result ≡ Byte.Part block offset which }
 {
-    let at = offset as usize;
-    match width {
-        Width::Signed8 => {
-            if at < bytes.len() {
-                signed_of(bytes[at])
-            } else {
-                None
-            }
-        }
-        Width::Unsigned8 => {
-            if at < bytes.len() {
-                unsigned_of(bytes[at])
-            } else {
-                None
-            }
-        }
-        Width::Word => {
-            if at + 4 <= bytes.len() && at % 4 == 0 {
-                word_of(bytes[at], bytes[at + 1], bytes[at + 2], bytes[at + 3])
-            } else {
-                None
-            }
-        }
-        Width::Pointer => {
-            if at + 4 <= bytes.len() && at % 4 == 0 {
-                pointer_of(bytes[at], bytes[at + 1], bytes[at + 2], bytes[at + 3])
-            } else {
-                None
-            }
-        }
-    }
-}
-
-fn put_four(bytes: &mut [Byte], at: usize, p: Byte, q: Byte, r: Byte, s: Byte)
-    requires { at + 4 ≤ length bytes.old }
-    ensures { bytes.new ≡ put_four bytes.old at p q r s }
-{
-    bytes[at] = p;
-    bytes[at + 1] = q;
-    bytes[at + 2] = r;
-    bytes[at + 3] = s;
-}
-
-// Stores a value at an offset, where it can be; else it answers false and changes nothing.
-fn write_at(bytes: &mut [Byte], offset: u32, width: Width, value: Value) -> bool
-    ensures stored { (if result then Some bytes.new else None) ≡ cond (fits width bytes.old offset) (write width value bytes.old offset) None }
-    ensures same { result ≡ false → bytes.new ≡ bytes.old }
-{
-    let at = offset as usize;
-    match (width, value) {
-        (Width::Signed8 | Width::Unsigned8, Value::Int(word)) => {
-            if at < bytes.len() {
-                bytes[at] = Byte::Plain((word % 256) as u8);
-                true
-            } else {
-                false
-            }
-        }
-        (Width::Word, Value::Int(word)) => {
-            if at + 4 <= bytes.len() && at % 4 == 0 {
-                let [a, b, c, d] = word.to_le_bytes();
-                put_four(
-                    bytes,
-                    at,
-                    Byte::Plain(a),
-                    Byte::Plain(b),
-                    Byte::Plain(c),
-                    Byte::Plain(d),
-                );
-                true
-            } else {
-                false
-            }
-        }
-        (Width::Pointer, Value::Int(word)) => {
-            if word == 0 && at + 4 <= bytes.len() && at % 4 == 0 {
-                let zero = Byte::Plain(0);
-                put_four(bytes, at, zero, zero, zero, zero);
-                true
-            } else {
-                false
-            }
-        }
-        (Width::Pointer, Value::Ptr { block, offset }) => {
-            if at + 4 <= bytes.len() && at % 4 == 0 {
-                put_four(
-                    bytes,
-                    at,
-                    Byte::Part {
-                        block,
-                        offset,
-                        which: 0,
-                    },
-                    Byte::Part {
-                        block,
-                        offset,
-                        which: 1,
-                    },
-                    Byte::Part {
-                        block,
-                        offset,
-                        which: 2,
-                    },
-                    Byte::Part {
-                        block,
-                        offset,
-                        which: 3,
-                    },
-                );
-                true
-            } else {
-                false
-            }
-        }
-        _ => false,
+    Byte::Part {
+        block,
+        offset,
+        which,
     }
 }
 
 impl Cells {
-    // A block whose bytes are unset.
+    /// A block whose bytes are unset.
     pub(crate) fn new(alloc: Global, size: u32, writable: bool) -> Result<Cells, AllocError>
         ensures { IfOk result (λ k. k ≡ unset_block size writable) }
     {
-        let bytes = vec![in alloc; Byte::Unset; size as usize]?;
-        Ok(Cells { bytes, writable })
+        let quads = Quads::new(alloc, (size as usize + 3) / 4)?;
+        Ok(Cells {
+            quads,
+            size,
+            writable,
+        })
     }
 
-    // Its size.
+    /// Its size.
     pub(crate) fn len(&self) -> usize
         ensures { result ≡ length self.now.bytes }
     {
-        self.bytes.len()
+        self.size as usize
     }
 
-    // The value at an offset, where it has one.
+    // Whether one byte at an offset lies inside.
+    fn has_byte(&self, offset: u32) -> bool
+        ensures { result ≡ fits Width.Unsigned8 self.now.bytes offset }
+    {
+        offset < self.size
+    }
+
+    // Whether four bytes at an offset lie inside, from a multiple of four on.
+    fn has_word(&self, offset: u32) -> bool
+        ensures { result ≡ fits Width.Word self.now.bytes offset }
+    {
+        offset as usize + 4 <= self.size as usize && offset % 4 == 0
+    }
+
+    fn byte_at(&self, offset: u32) -> Byte
+        requires { offset < length self.now.bytes }
+        ensures { result ≡ get_or self.now.bytes offset Byte.Unset }
+    {
+        self.quads
+            .byte((offset / 4) as usize, (offset % 4) as usize)
+    }
+
+    fn word_at(&self, offset: u32) -> Option<Value>
+        requires { fits Width.Word self.now.bytes offset ≡ true }
+        ensures { result ≡ read Width.Word self.now.bytes offset }
+    {
+        self.quads.word((offset / 4) as usize)
+    }
+
+    fn pointer_at(&self, offset: u32) -> Option<Value>
+        requires { fits Width.Pointer self.now.bytes offset ≡ true }
+        ensures { result ≡ read Width.Pointer self.now.bytes offset }
+    {
+        self.quads.pointer((offset / 4) as usize)
+    }
+
+    /// The value at an offset, where it has one.
     pub(crate) fn read(&self, offset: u32, width: Width) -> Option<Value>
         ensures { result ≡ read_in self.now width offset }
     {
-        read_at(&self.bytes, offset, width)
+        match width {
+            Width::Signed8 if self.has_byte(offset) => signed_of(self.byte_at(offset)),
+            Width::Unsigned8 if self.has_byte(offset) => unsigned_of(self.byte_at(offset)),
+            Width::Word if self.has_word(offset) => self.word_at(offset),
+            Width::Pointer if self.has_word(offset) => self.pointer_at(offset),
+            _ => None,
+        }
     }
 
-    // Stores a value at an offset, where it can be; else it answers false and changes nothing.
+    /// Puts a byte at an offset, whether the block is writable or not.
+    pub(crate) fn put(&mut self, offset: u32, byte: Byte)
+        requires { offset < length self.old.bytes }
+        ensures { self.new ≡ record self.old { bytes = set self.old.bytes offset byte } }
+    {
+        self.quads
+            .put_byte((offset / 4) as usize, (offset % 4) as usize, byte);
+    }
+
+    // Puts the bytes of a word at an offset.
+    fn put_word(&mut self, offset: u32, word: u32)
+        requires { fits Width.Word self.old.bytes offset ≡ true }
+        ensures { self.new ≡ record self.old { bytes = put_four self.old.bytes offset (Byte.Plain (byte_of word 0)) (Byte.Plain (byte_of word 1)) (Byte.Plain (byte_of word 2)) (Byte.Plain (byte_of word 3)) } }
+    {
+        let [a, b, c, d] = word.to_le_bytes();
+        self.quads.put_plain((offset / 4) as usize, a, b, c, d);
+    }
+
+    // Puts the four parts of a pointer at an offset.
+    fn put_pointer(&mut self, offset: u32, block: BlockName, place: u32)
+        requires { fits Width.Pointer self.old.bytes offset ≡ true }
+        ensures { self.new ≡ record self.old { bytes = put_four self.old.bytes offset (Byte.Part block place 0) (Byte.Part block place 1) (Byte.Part block place 2) (Byte.Part block place 3) } }
+    {
+        let quad = Quad {
+            zero: part(block, place, 0),
+            one: part(block, place, 1),
+            two: part(block, place, 2),
+            three: part(block, place, 3),
+        };
+        self.quads.put((offset / 4) as usize, quad);
+    }
+
+    /// Stores a value at an offset, where it can be; else it answers false and changes nothing.
     pub(crate) fn write(&mut self, offset: u32, width: Width, value: Value) -> bool
         ensures stored { (if result then Some self.new.bytes else None) ≡ written_in self.old width offset value }
         ensures rights { self.new.writable ≡ self.old.writable }
@@ -282,14 +153,30 @@ impl Cells {
         if !self.writable {
             return false;
         }
-        write_at(&mut self.bytes, offset, width, value)
-    }
-
-    // Puts a byte at an offset, whether the block is writable or not.
-    pub(crate) fn put(&mut self, offset: u32, byte: Byte)
-        requires { offset < length self.old.bytes }
-        ensures { self.new ≡ record self.old { bytes = set self.old.bytes offset byte } }
-    {
-        self.bytes[offset as usize] = byte;
+        match (width, value) {
+            (Width::Signed8 | Width::Unsigned8, Value::Int(word)) if self.has_byte(offset) => {
+                self.put(offset, Byte::Plain((word % 256) as u8));
+                true
+            }
+            (Width::Word, Value::Int(word)) if self.has_word(offset) => {
+                self.put_word(offset, word);
+                true
+            }
+            (Width::Pointer, Value::Int(0)) if self.has_word(offset) => {
+                self.put_word(offset, 0);
+                true
+            }
+            (
+                Width::Pointer,
+                Value::Ptr {
+                    block,
+                    offset: place,
+                },
+            ) if self.has_word(offset) => {
+                self.put_pointer(offset, block, place);
+                true
+            }
+            _ => false,
+        }
     }
 }

@@ -5,9 +5,11 @@
 //! operators (`Memory::apply`) answer None exactly where the source's rules give no value.
 #![tactic(auto)]
 
+mod access;
 mod cells;
 mod memory;
 mod operator;
+mod quads;
 mod value;
 
 pub use memory::Memory;

@@ -8,7 +8,8 @@ ghost use Rattle.block_mem.specs.Integers.{on_word, on_words};
 ghost use Rattle.block_mem.specs.Operators.{equal, in_order, elements_between, moved, of_word, of_words, int_of, applied};
 ghost use Rattle.cc_base.specs.Words.{add32};
 
-use crate::cells::{Cells, same_name};
+use crate::access::same_name;
+use crate::cells::Cells;
 use crate::operator::{Element, Op, on_word, on_words};
 use crate::value::{BlockName, Byte, Value, Width};
 use std::alloc::{AllocError, Global};

@@ -1,6 +1,6 @@
 use Rattle.std.proofs.Common.{ap, ◌∙◌}
 use Rattle.std.specs.FinMap as map
-use Rattle.block_mem.specs.Blocks.{Block, Blocks, unset_block, made}
+use Rattle.block_mem.specs.Blocks.{Block, Blocks, made}
 use Rattle.block_mem.proofs.Lookups.{inserted}
 use Rattle.block_mem.proofs.memory.Memory.alloc_block.Goals as goal
 
