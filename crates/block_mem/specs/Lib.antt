@@ -5,4 +5,5 @@ pub mod Blocks
 pub mod Access
 pub mod Operators
 pub mod Quads
+pub mod Start
 pub mod Codes
