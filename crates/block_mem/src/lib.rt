@@ -10,6 +10,8 @@ mod cells;
 mod memory;
 mod operator;
 mod quads;
+#[cfg(test)]
+mod tests;
 mod value;
 
 pub use memory::Memory;

@@ -200,8 +200,8 @@ fn of_words(op: Op, left: Value, right: Value) -> Option<Value>
 }
 
 impl Memory {
-    // Whether a block is live.
-    fn is_live(&self, block: BlockName) -> bool
+    /// Whether a live block has the name. It takes no memory.
+    pub fn is_live(&self, block: BlockName) -> bool
         ensures { result ≡ live self.now block }
     {
         self.blocks.contains_key(&block)
@@ -218,7 +218,7 @@ impl Memory {
     }
 
     // Whether an offset lies below the size of a live block.
-    fn inside(&self, block: BlockName, offset: u32) -> bool
+    pub(crate) fn inside(&self, block: BlockName, offset: u32) -> bool
         ensures { result ≡ inside self.now block offset }
     {
         match self.blocks.get(&block) {
@@ -281,10 +281,8 @@ impl Memory {
                     offset: place,
                 },
             ) => {
-                if same_name(block, other)
-                    && self.within(block, offset)
-                    && self.within(block, place)
-                {
+                let bounded = self.within(block, offset) && self.within(block, place);
+                if same_name(block, other) && bounded {
                     Some((offset, place))
                 } else {
                     None
