@@ -54,77 +54,192 @@ fn blocks(rt: &impl Abort, alloc: Global) -> Result<Memory, AllocError> {
     Ok(memory)
 }
 
-// An operator, its operands, and what it gives.
-static INTEGERS: [(Op, u32, u32, Option<u32>); 57] = [
-    (Op::LowSigned, 200, 0, Some(0xFFFF_FFC8)),
-    (Op::LowSigned, 127, 0, Some(127)),
-    (Op::LowSigned, 0x180, 0, Some(0xFFFF_FF80)),
-    (Op::LowUnsigned, 0xFFFF_FFC8, 0, Some(200)),
-    (Op::LowUnsigned, 256, 0, Some(0)),
-    (Op::Neg, LEAST, 0, Some(LEAST)),
-    (Op::Neg, 1, 0, Some(MINUS_ONE)),
-    (Op::Flip, 0, 0, Some(MINUS_ONE)),
-    (Op::Flip, GREATEST, 0, Some(LEAST)),
-    (Op::Not, 0, 7, Some(1)),
-    (Op::Not, LEAST, 0, Some(0)),
-    (Op::Add, GREATEST, 1, Some(LEAST)),
-    (Op::Add, MINUS_ONE, 1, Some(0)),
-    (Op::Sub, MINUS_ONE - GREATEST, 1, Some(GREATEST)),
-    (Op::Sub, 0, 1, Some(MINUS_ONE)),
-    (Op::Mul, 0x1_0001, 0x1_0001, Some(0x2_0001)),
-    (Op::Mul, MINUS_ONE, MINUS_ONE, Some(1)),
-    (Op::DivSigned, MINUS_SEVEN, 2, Some(0xFFFF_FFFD)),
-    (Op::DivSigned, 7, 0xFFFF_FFFE, Some(0xFFFF_FFFD)),
-    (Op::DivSigned, 1, 0, None),
-    (Op::DivSigned, LEAST, MINUS_ONE, None),
-    (Op::DivUnsigned, MINUS_SEVEN, 2, Some(0x7FFF_FFFC)),
-    (Op::DivUnsigned, LEAST, MINUS_ONE, Some(0)),
-    (Op::DivUnsigned, 1, 0, None),
-    (Op::RemSigned, MINUS_SEVEN, 2, Some(MINUS_ONE)),
-    (Op::RemSigned, 7, 0xFFFF_FFFE, Some(1)),
-    (Op::RemSigned, LEAST, MINUS_ONE, None),
-    (Op::RemSigned, 0, 0, None),
-    (Op::RemUnsigned, MINUS_SEVEN, 2, Some(1)),
-    (Op::RemUnsigned, 0, 0, None),
-    (Op::And, 0xF0F0_F0F0, 0xFF00_FF00, Some(0xF000_F000)),
-    (Op::Or, 0xF0F0_F0F0, 0xFF00_FF00, Some(0xFFF0_FFF0)),
-    (Op::Xor, 0xF0F0_F0F0, 0xFF00_FF00, Some(0x0FF0_0FF0)),
-    (Op::Shl, 1, 31, Some(LEAST)),
-    (Op::Shl, 3, 31, Some(LEAST)),
-    (Op::Shl, 1, 32, None),
-    (Op::Shl, 1, MINUS_ONE, None),
-    (Op::ShrSigned, LEAST, 31, Some(MINUS_ONE)),
-    (Op::ShrSigned, MINUS_SEVEN, 1, Some(0xFFFF_FFFC)),
-    (Op::ShrSigned, 1, 32, None),
-    (Op::ShrUnsigned, LEAST, 31, Some(1)),
-    (Op::ShrUnsigned, 1, 32, None),
-    (Op::Eq, MINUS_ONE, MINUS_ONE, Some(1)),
-    (Op::Eq, 0, 1, Some(0)),
-    (Op::Ne, MINUS_ONE, MINUS_ONE, Some(0)),
-    (Op::LtSigned, LEAST, 0, Some(1)),
-    (Op::LtUnsigned, LEAST, 0, Some(0)),
-    (Op::GtSigned, LEAST, 0, Some(0)),
-    (Op::GtUnsigned, LEAST, 0, Some(1)),
-    (Op::LeSigned, MINUS_ONE, 0, Some(1)),
-    (Op::LeSigned, 0, 0, Some(1)),
-    (Op::LeUnsigned, MINUS_ONE, 0, Some(0)),
-    (Op::LeUnsigned, 0, 0, Some(1)),
-    (Op::GeSigned, MINUS_ONE, 0, Some(0)),
-    (Op::GeSigned, 0, 0, Some(1)),
-    (Op::GeUnsigned, MINUS_ONE, 0, Some(1)),
-    (Op::GeUnsigned, 0, 0, Some(1)),
-];
+// What an operator gives on pairs of integers. On a pointer it gives nothing.
+fn gives(rt: &impl Abort, memory: &Memory, op: Op, rows: &[(u32, u32, Option<u32>)]) {
+    for (left, right, want) in rows {
+        let given = memory.apply(op, &Value::Int(*left), &Value::Int(*right));
+        assert_eq!(rt; given, want.map(Value::Int), "{op:?} {left} {right}");
+        let of_pointer = memory.apply(op, &pointer(0, 0), &Value::Int(*right));
+        assert_eq!(rt; of_pointer, None, "{op:?} of a pointer");
+    }
+}
 
 #[test]
 fn operators_on_integers(rt: HostRuntime) -> Result<(), Fail> {
     let memory = Memory::new(rt.alloc())?;
-    for (op, left, right, want) in &INTEGERS {
-        let given = memory.apply(*op, &Value::Int(*left), &Value::Int(*right));
-        let word = want.map(Value::Int);
-        assert_eq!(rt; given, word, "{op:?} {left} {right}");
-        let of_pointer = memory.apply(*op, &pointer(0, 0), &Value::Int(*right));
-        assert_eq!(rt; of_pointer, None, "{op:?} of a pointer");
-    }
+    gives(
+        &rt,
+        &memory,
+        Op::LowSigned,
+        &[
+            (200, 0, Some(0xFFFF_FFC8)),
+            (127, 0, Some(127)),
+            (0x180, 0, Some(0xFFFF_FF80)),
+        ],
+    );
+    gives(
+        &rt,
+        &memory,
+        Op::LowUnsigned,
+        &[(0xFFFF_FFC8, 0, Some(200)), (256, 0, Some(0))],
+    );
+    gives(
+        &rt,
+        &memory,
+        Op::Neg,
+        &[(LEAST, 0, Some(LEAST)), (1, 0, Some(MINUS_ONE))],
+    );
+    gives(
+        &rt,
+        &memory,
+        Op::Flip,
+        &[(0, 0, Some(MINUS_ONE)), (GREATEST, 0, Some(LEAST))],
+    );
+    gives(
+        &rt,
+        &memory,
+        Op::Not,
+        &[(0, 7, Some(1)), (LEAST, 0, Some(0))],
+    );
+    gives(
+        &rt,
+        &memory,
+        Op::Add,
+        &[(GREATEST, 1, Some(LEAST)), (MINUS_ONE, 1, Some(0))],
+    );
+    gives(
+        &rt,
+        &memory,
+        Op::Sub,
+        &[(LEAST, 1, Some(GREATEST)), (0, 1, Some(MINUS_ONE))],
+    );
+    gives(
+        &rt,
+        &memory,
+        Op::Mul,
+        &[
+            (0x1_0001, 0x1_0001, Some(0x2_0001)),
+            (MINUS_ONE, MINUS_ONE, Some(1)),
+        ],
+    );
+    gives(
+        &rt,
+        &memory,
+        Op::DivSigned,
+        &[
+            (MINUS_SEVEN, 2, Some(0xFFFF_FFFD)),
+            (7, 0xFFFF_FFFE, Some(0xFFFF_FFFD)),
+            (1, 0, None),
+            (LEAST, MINUS_ONE, None),
+        ],
+    );
+    gives(
+        &rt,
+        &memory,
+        Op::DivUnsigned,
+        &[
+            (MINUS_SEVEN, 2, Some(0x7FFF_FFFC)),
+            (LEAST, MINUS_ONE, Some(0)),
+            (1, 0, None),
+        ],
+    );
+    gives(
+        &rt,
+        &memory,
+        Op::RemSigned,
+        &[
+            (MINUS_SEVEN, 2, Some(MINUS_ONE)),
+            (7, 0xFFFF_FFFE, Some(1)),
+            (LEAST, MINUS_ONE, None),
+            (0, 0, None),
+        ],
+    );
+    gives(
+        &rt,
+        &memory,
+        Op::RemUnsigned,
+        &[(MINUS_SEVEN, 2, Some(1)), (0, 0, None)],
+    );
+    gives(
+        &rt,
+        &memory,
+        Op::And,
+        &[(0xF0F0_F0F0, 0xFF00_FF00, Some(0xF000_F000))],
+    );
+    gives(
+        &rt,
+        &memory,
+        Op::Or,
+        &[(0xF0F0_F0F0, 0xFF00_FF00, Some(0xFFF0_FFF0))],
+    );
+    gives(
+        &rt,
+        &memory,
+        Op::Xor,
+        &[(0xF0F0_F0F0, 0xFF00_FF00, Some(0x0FF0_0FF0))],
+    );
+    gives(
+        &rt,
+        &memory,
+        Op::Shl,
+        &[
+            (1, 31, Some(LEAST)),
+            (3, 31, Some(LEAST)),
+            (1, 32, None),
+            (1, MINUS_ONE, None),
+        ],
+    );
+    gives(
+        &rt,
+        &memory,
+        Op::ShrSigned,
+        &[
+            (LEAST, 31, Some(MINUS_ONE)),
+            (MINUS_SEVEN, 1, Some(0xFFFF_FFFC)),
+            (1, 32, None),
+        ],
+    );
+    gives(
+        &rt,
+        &memory,
+        Op::ShrUnsigned,
+        &[(LEAST, 31, Some(1)), (1, 32, None)],
+    );
+    gives(
+        &rt,
+        &memory,
+        Op::Eq,
+        &[(MINUS_ONE, MINUS_ONE, Some(1)), (0, 1, Some(0))],
+    );
+    gives(&rt, &memory, Op::Ne, &[(MINUS_ONE, MINUS_ONE, Some(0))]);
+    gives(&rt, &memory, Op::LtSigned, &[(LEAST, 0, Some(1))]);
+    gives(&rt, &memory, Op::LtUnsigned, &[(LEAST, 0, Some(0))]);
+    gives(&rt, &memory, Op::GtSigned, &[(LEAST, 0, Some(0))]);
+    gives(&rt, &memory, Op::GtUnsigned, &[(LEAST, 0, Some(1))]);
+    gives(
+        &rt,
+        &memory,
+        Op::LeSigned,
+        &[(MINUS_ONE, 0, Some(1)), (0, 0, Some(1))],
+    );
+    gives(
+        &rt,
+        &memory,
+        Op::LeUnsigned,
+        &[(MINUS_ONE, 0, Some(0)), (0, 0, Some(1))],
+    );
+    gives(
+        &rt,
+        &memory,
+        Op::GeSigned,
+        &[(MINUS_ONE, 0, Some(0)), (0, 0, Some(1))],
+    );
+    gives(
+        &rt,
+        &memory,
+        Op::GeUnsigned,
+        &[(MINUS_ONE, 0, Some(1)), (0, 0, Some(1))],
+    );
     Ok(())
 }
 
