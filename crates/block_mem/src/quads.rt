@@ -102,6 +102,18 @@ fn pick(quad: &Quad, which: usize) -> Byte
     }
 }
 
+// The same of four that are no pointer's parts.
+fn pick_cell(zero: Cell, one: Cell, two: Cell, three: Cell, which: usize) -> Cell
+    ensures { byte_of_cell result ≡ pick which (quad_of_cells zero one two three) }
+{
+    match which {
+        0 => zero,
+        1 => one,
+        2 => two,
+        _ => three,
+    }
+}
+
 // Four bytes with another one at a place.
 fn with_byte(quad: Quad, which: usize, byte: Byte) -> Quad
     ensures { result ≡ with_byte which byte quad }
@@ -219,18 +231,27 @@ impl Quads {
         requires { at < length self.old }
         ensures { self.new ≡ set self.old at (with_byte which byte (get_or self.old at unset_quad)) }
     {
-        let quad = with_byte(self.at(at), which, byte);
-        let cells = (
-            cell_of(quad.zero),
-            cell_of(quad.one),
-            cell_of(quad.two),
-            cell_of(quad.three),
-        );
-        match cells {
-            (Some(zero), Some(one), Some(two), Some(three)) => {
-                self.put_cells(at, zero, one, two, three)
-            }
-            _ => self.put(at, quad),
+        let Some(cell) = cell_of(byte) else {
+            let quad = with_byte(self.at(at), which, byte);
+            self.put(at, quad);
+            return;
+        };
+        let Word::Simple {
+            zero,
+            one,
+            two,
+            three,
+        } = self.words[at]
+        else {
+            let quad = with_byte(self.at(at), which, byte);
+            self.put(at, quad);
+            return;
+        };
+        match which {
+            0 => self.put_cells(at, cell, one, two, three),
+            1 => self.put_cells(at, zero, cell, two, three),
+            2 => self.put_cells(at, zero, one, cell, three),
+            _ => self.put_cells(at, zero, one, two, cell),
         }
     }
 
@@ -239,6 +260,15 @@ impl Quads {
         requires { at < length self.now }
         ensures { result ≡ pick which (get_or self.now at unset_quad) }
     {
+        if let Word::Simple {
+            zero,
+            one,
+            two,
+            three,
+        } = self.words[at]
+        {
+            return byte_of_cell(pick_cell(zero, one, two, three, which));
+        }
         let quad = self.at(at);
         pick(&quad, which)
     }
@@ -248,6 +278,15 @@ impl Quads {
         requires { at < length self.now }
         ensures { let q = get_or self.now at unset_quad in result ≡ word_of q.zero q.one q.two q.three }
     {
+        if let Word::Simple {
+            zero: Cell::Plain(a),
+            one: Cell::Plain(b),
+            two: Cell::Plain(c),
+            three: Cell::Plain(d),
+        } = self.words[at]
+        {
+            return Some(Value::Int(u32::from_le_bytes([a, b, c, d])));
+        }
         let quad = self.at(at);
         word_of(quad.zero, quad.one, quad.two, quad.three)
     }
