@@ -1,11 +1,11 @@
 #!/bin/sh
-# How many loads and stores, and how many activations made and ended, block_mem does in a second, and how much memory a
-# block of 8 MiB takes. It writes a program into a temporary folder beside copies of the crates, and builds it with rt.
+# How many loads and stores, and how many activations made and ended, block_mem does in a second of processor time, and
+# how much memory a block of 8 MiB takes. It writes a program into a temporary folder beside copies of the crates, and
+# builds it with rt.
 set -eu
 root=$(cd "$(dirname "$0")/.." && pwd)
 work=$(mktemp -d)
-[ -n "${KEEP:-}" ] || trap 'rm -rf "$work"' EXIT
-echo "$work"
+trap 'rm -rf "$work"' EXIT
 mkdir -p "$work/crates"
 for crate in cc_base block_mem; do
     mkdir "$work/crates/$crate"
@@ -122,6 +122,9 @@ for what in byte word many pointer calls; do
     times=20000000
     [ "$what" = calls ] && times=2000000
     seconds=$(/usr/bin/time -f %U "$program" "$what" "$times" 2>&1 > /dev/null)
-    awk -v what="$what" -v n="$times" -v t="$seconds" 'BEGIN { printf "%-8s %12.0f a second\n", what, n / t }'
+    each='pairs of a store and a load'
+    [ "$what" = calls ] && each='activations with four locals'
+    awk -v what="$what" -v each="$each" -v n="$times" -v t="$seconds" \
+        'BEGIN { printf "%-8s %12.0f %s a second\n", what, n / t, each }'
 done
 /usr/bin/time -f 'a block of 8 MiB: %M KiB' "$program" large 2097152 > /dev/null

@@ -21,7 +21,7 @@ use std::marker::Model;
 #[derive(Drop)]
 pub struct Memory {
     alloc: Global,
-    blocks: HashMap<BlockName, Cells>,
+    named: HashMap<BlockName, Cells>,
 }
 
 impl Model for Memory {
@@ -34,7 +34,7 @@ impl Model for Memory {
 
     ghost coded = { map.code coded_name coded_block };
 
-    ghost view = { λ s. map.from_entries s.blocks.entries };
+    ghost view = { λ s. map.from_entries s.named.entries };
 }
 
 impl Memory {
@@ -44,7 +44,7 @@ impl Memory {
     {
         Ok(Memory {
             alloc,
-            blocks: HashMap::new(alloc),
+            named: HashMap::new(alloc),
         })
     }
 
@@ -60,7 +60,7 @@ impl Memory {
         ensures err { OnErr result (self.new ≡ self.old) }
     {
         let cells = Cells::new(self.alloc, size, writable)?;
-        self.blocks.insert(name, cells)?;
+        self.named.insert(name, cells)?;
         Ok(())
     }
 
@@ -69,7 +69,7 @@ impl Memory {
         requires { inside self.old name offset ≡ true }
         ensures { self.new ≡ first self.old name offset byte }
     {
-        let Some(cells) = self.blocks.get_mut(&name) else {
+        let Some(cells) = self.named.get_mut(&name) else {
             return;
         };
         cells.put(offset, byte);
@@ -80,7 +80,7 @@ impl Memory {
         requires { live self.old name ≡ true }
         ensures { self.new ≡ ended self.old name }
     {
-        let _ = self.blocks.remove(&name);
+        let _ = self.named.remove(&name);
     }
 
     /// The value at a pointer, or None where the source's rules give none. It takes no memory.
@@ -89,7 +89,7 @@ impl Memory {
     {
         match *pointer {
             Value::Int(_) => None,
-            Value::Ptr { block, offset } => match self.blocks.get(&block) {
+            Value::Ptr { block, offset } => match self.named.get(&block) {
                 None => None,
                 Some(cells) => cells.read(offset, width),
             },
@@ -104,7 +104,7 @@ impl Memory {
         let Value::Ptr { block, offset } = *pointer else {
             return false;
         };
-        let Some(cells) = self.blocks.get_mut(&block) else {
+        let Some(cells) = self.named.get_mut(&block) else {
             return false;
         };
         cells.write(offset, width, *value)
@@ -204,14 +204,14 @@ impl Memory {
     pub fn is_live(&self, block: BlockName) -> bool
         ensures { result ≡ live self.now block }
     {
-        self.blocks.contains_key(&block)
+        self.named.contains_key(&block)
     }
 
     // Whether an offset lies in 0 to the size of a live block.
     fn within(&self, block: BlockName, offset: u32) -> bool
         ensures { result ≡ within self.now block offset }
     {
-        match self.blocks.get(&block) {
+        match self.named.get(&block) {
             Some(cells) => offset as usize <= cells.len(),
             None => false,
         }
@@ -221,7 +221,7 @@ impl Memory {
     pub(crate) fn inside(&self, block: BlockName, offset: u32) -> bool
         ensures { result ≡ inside self.now block offset }
     {
-        match self.blocks.get(&block) {
+        match self.named.get(&block) {
             Some(cells) => (offset as usize) < cells.len(),
             None => false,
         }

@@ -12,5 +12,5 @@ live_some (Some c) = refl
 
 pub returns : goal.returns
 returns c =
-    c.contains_key.ensures ∙ live_some (lookup (same c.args.block) c.self.inside.blocks.entries)
-    ∙ ap live_in (sym (get_is c.self.inside.blocks.entries c.args.block)) ∙ ap (λ (m : Blocks). live_in (map.get m c.args.block)) c.self.view_is
+    c.contains_key.ensures ∙ live_some (lookup (same c.args.block) c.self.inside.named.entries)
+    ∙ ap live_in (sym (get_is c.self.inside.named.entries c.args.block)) ∙ ap (λ (m : Blocks). live_in (map.get m c.args.block)) c.self.view_is
