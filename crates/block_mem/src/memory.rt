@@ -233,14 +233,8 @@ impl Memory {
     {
         match (left, right) {
             (Value::Int(a), Value::Int(b)) => { if a == 0 && b == 0 { Some(true) } else { None } }
-            (Value::Int(a), Value::Ptr { block, offset }) => {
-                if a == 0 && self.within(block, offset) {
-                    Some(false)
-                } else {
-                    None
-                }
-            }
-            (Value::Ptr { block, offset }, Value::Int(a)) => {
+            (Value::Int(a), Value::Ptr { block, offset })
+            | (Value::Ptr { block, offset }, Value::Int(a)) => {
                 if a == 0 && self.within(block, offset) {
                     Some(false)
                 } else {
