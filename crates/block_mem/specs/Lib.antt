@@ -5,5 +5,6 @@ pub mod Blocks
 pub mod Access
 pub mod Operators
 pub mod Quads
+pub mod Laws
 pub mod Start
 pub mod Codes
