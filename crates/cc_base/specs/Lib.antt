@@ -5,3 +5,4 @@ pub mod Host
 pub mod Runs
 pub mod Words
 pub mod NumberText
+pub mod Faces

@@ -1,0 +1,10 @@
+pub mod Arithmetic
+pub mod Integers
+pub mod Names
+pub mod Blocks
+pub mod Access
+pub mod Operators
+pub mod Quads
+pub mod Laws
+pub mod Start
+pub mod Codes
