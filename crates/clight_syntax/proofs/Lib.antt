@@ -7,3 +7,4 @@ pub mod SecondTokens
 pub mod SecondItems
 pub mod NameRules
 pub mod SecondWhole
+pub mod SecondExamples

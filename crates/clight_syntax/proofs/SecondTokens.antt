@@ -270,3 +270,31 @@ some_left (suc n) r e f = omega arith
 
 pub no_digit : (n : ℕ) → IsNotAsciiDigit n → ¬ IsDigit n
 no_digit n h d = grind (arith, h, d.low, d.high)
+
+-- a text has one list of such tokens
+skips_gap : (t : Token) (tokens : List Token) (text : List ℕ) → IsProper t → (h : Reads (t ∷ tokens) text) → Skips text (spelling t ++ h.rest)
+skips_gap t tokens text p h = record { gap = h.gap; spans = record { whole = h.whole; all = h.blank; stops = spelled_solid t h.rest p } }
+
+wordlike_begins : (t : Token) (tokens : List Token) (text : List ℕ) → All IsProper (t ∷ tokens) → IsWordlike t → (h : Reads (t ∷ tokens) text) → BeginsToken t text h.rest
+wordlike_begins t tokens text a w h =
+    let p : IsProper t = All-head IsProper t tokens a in
+    token_goes t (skips_gap t tokens text p h)
+    (record { whole = refl; all = all_word t p w; stops = ends_stop t tokens h.rest (All-tail IsProper t tokens a) h.after.0 h.after.1 w })
+    (spelled_some t p) (record { proper = p; wordlike = w; spelled = refl })
+
+begins_token : (t : Token) (tokens : List Token) (text : List ℕ) → All IsProper (t ∷ tokens) → (h : Reads (t ∷ tokens) text) → BeginsToken t text h.rest
+begins_token (Word bytes) tokens text a h = wordlike_begins (Word bytes) tokens text a tt h
+begins_token (Num n) tokens text a h = wordlike_begins (Num n) tokens text a tt h
+begins_token (Sign b) tokens text a h =
+    let p : IsMark b = All-head IsProper (Sign b) tokens a in
+    mark_goes b (skips_gap (Sign b) tokens text p h) (mark_no_word b p) p refl
+
+pub one_reading : (a b : List Token) (text : List ℕ) → All IsProper a → All IsProper b → Reads a text → Reads b text → a ≡ b
+one_reading [] [] text p q h k = refl
+one_reading [] (u ∷ b) text p q h k = absurd ((begins_token u b text q k).solid h)
+one_reading (t ∷ a) [] text p q h k = absurd ((begins_token t a text p h).solid k)
+one_reading (t ∷ a) (u ∷ b) text p q h k =
+    let begun : BeginsToken t text h.rest = begins_token t a text p h in
+    let first : u ≡ t = begun.same u b q k in
+    let rest : a ≡ b = one_reading a b h.rest (All-tail IsProper t a p) (All-tail IsProper u b q) h.after.1 (begun.left u b q k) in
+    cc

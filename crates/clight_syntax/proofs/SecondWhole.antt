@@ -9,6 +9,8 @@ use Rattle.clight_syntax.specs.declared.second_items.SmallStmt.TheVariants.{Put,
 use Rattle.clight_syntax.specs.declared.second_items.Item.{Item}
 use Rattle.clight_syntax.specs.Tokens.{Token, Sign, Reads}
 use Rattle.clight_syntax.specs.SecondForm.{IsWordByte, IsIdentifier, Fits, CallsName, IsBodyIfAny, IsItem, statement_tokens, statements_tokens, body_tokens, function_tokens, static_tokens, item_tokens, items_tokens, KeepsNames, IsSecondForm}
+use Rattle.clight_syntax.proofs.SecondItems.{same_items}
+use Rattle.clight_syntax.proofs.SecondTokens.{one_reading}
 use Rattle.clight_syntax.specs.SecondReading.{IsMark, IsProper, CallsFree, IsFreeIfAny, IsFreeItem}
 
 and_true : (a b : Bool) → (a && b) ≡ true → (a ≡ true) × (b ≡ true)
@@ -173,3 +175,7 @@ form_here text tokens items l a r f e k =
       each = All-from_recursion IsItem items (each_item items (recursion_from_All IsFreeItem items f) (recursion_from_All IsProper (items_tokens items) (subst P e a)));
       rules = k;
     }
+
+-- a text has one list of items
+pub one_form : (text : List ℕ) (a b : List Item) → IsSecondForm text a → IsSecondForm text b → a ≡ b
+one_form text a b h k = same_items a b (one_reading (items_tokens a) (items_tokens b) text (proper_of a h.each) (proper_of b k.each) h.tokens k.tokens)

@@ -5,3 +5,6 @@ pub mod SecondForm
 pub mod SecondReading
 pub mod SecondRun
 pub mod SecondNames
+pub mod SecondFaults
+pub mod SecondLaws
+pub mod SecondLinks
