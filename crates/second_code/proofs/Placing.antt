@@ -21,7 +21,7 @@ use Rattle.second_code.specs.Placed.{relocated, Covers, IsRelocated, Placed}
 relocated-is : (target place : ℕ) → target < 2 ^ 32 → place + 4 < 2 ^ 32 → relocated target place ≡ sub32 target (place + 4)
 relocated-is target place t p = omega (arith, t, p)
 
-All-to : {X : Type 0} (P Q : X → Type 0) → ((x : X) → P x → Q x) → (xs : List X) → All P xs → All Q xs
+pub All-to : {X : Type 0} (P Q : X → Type 0) → ((x : X) → P x → Q x) → (xs : List X) → All P xs → All Q xs
 All-to P Q f xs a = λ k d h. f (get_or xs k d) (a k d h)
 
 All-middle : {X : Type 0} (P : X → Type 0) (before : List X) (x : X) (after : List X) → All P (before ++ x ∷ after) → P x
@@ -58,10 +58,10 @@ on-here code xs at inside s =
 abbrev IsClear : ℕ → ℕ → Use → Type 0
 IsClear from size call = (call.place + 4 ≤ from) ⊎ (from + size ≤ call.place)
 
-abbrev EndsBy : ℕ → Use → Type 0
+abbrev pub EndsBy : ℕ → Use → Type 0
 EndsBy from call = call.place + 4 ≤ from
 
-abbrev BeginsFrom : ℕ → Use → Type 0
+abbrev pub BeginsFrom : ℕ → Use → Type 0
 BeginsFrom from call = from ≤ call.place
 
 clear-before : (from size end : ℕ) → end ≤ from → (calls : List Use) → All (EndsBy end) calls → All (IsClear from size) calls
@@ -71,25 +71,25 @@ clear-after : (from size end : ℕ) → from + size ≤ end → (calls : List Us
 clear-after from size end l calls a = All-to (BeginsFrom end) (IsClear from size) (λ call h. inr (let m = h in omega (arith, m, l))) calls a
 
 -- the calls of statements whose code begins at a place are behind it, and before their end
-uses_begin : (at from : ℕ) (body : List SmallStmt) → from ≤ at → All (BeginsFrom from) (uses_from at body)
+pub uses_begin : (at from : ℕ) (body : List SmallStmt) → from ≤ at → All (BeginsFrom from) (uses_from at body)
 uses_begin at from [] l = λ k d h. absurd (omega (arith, h))
 uses_begin at from (Put n ∷ body) l = All-cons (BeginsFrom from) _ _ (omega (arith, l)) (uses_begin (at + 12) from body (omega (arith, l)))
 uses_begin at from (Call name ∷ body) l = All-cons (BeginsFrom from) _ _ (omega (arith, l)) (uses_begin (at + 5) from body (omega (arith, l)))
 uses_begin at from (Return n ∷ body) l = uses_begin (at + 6) from body (omega (arith, l))
 
-uses_end : (at to : ℕ) (body : List SmallStmt) → at + body_size body ≤ to → All (EndsBy to) (uses_from at body)
+pub uses_end : (at to : ℕ) (body : List SmallStmt) → at + body_size body ≤ to → All (EndsBy to) (uses_from at body)
 uses_end at to [] l = λ k d h. absurd (omega (arith, h))
 uses_end at to (Put n ∷ body) l = All-cons (EndsBy to) _ _ (omega (arith, l)) (uses_end (at + 12) to body (omega (arith, l)))
 uses_end at to (Call name ∷ body) l = All-cons (EndsBy to) _ _ (omega (arith, l)) (uses_end (at + 5) to body (omega (arith, l)))
 uses_end at to (Return n ∷ body) l = uses_end (at + 6) to body (omega (arith, l))
 
-unit_uses_begin : (at from : ℕ) (items : List Item) → from ≤ at → All (BeginsFrom from) (unit_uses_from at items)
+pub unit_uses_begin : (at from : ℕ) (items : List Item) → from ≤ at → All (BeginsFrom from) (unit_uses_from at items)
 unit_uses_begin at from [] l = λ k d h. absurd (omega (arith, h))
 unit_uses_begin at from (item ∷ items) l =
     All-append (BeginsFrom from) (uses_from at (body_of item.body)) (unit_uses_from (at + body_size (body_of item.body)) items)
     (uses_begin at from (body_of item.body) l) (unit_uses_begin (at + body_size (body_of item.body)) from items (omega (arith, l)))
 
-length-open_body : (body : List SmallStmt) → length (open_body body) ≡ body_size body
+pub length-open_body : (body : List SmallStmt) → length (open_body body) ≡ body_size body
 length-open_body [] = refl
 length-open_body (Put n ∷ body) = let h = length-open_body body in omega (arith, h)
 length-open_body (Call name ∷ body) = let h = length-open_body body in omega (arith, h)
@@ -100,10 +100,10 @@ length-statement_code places to e (Put n) = refl
 length-statement_code places to e (Call name) = refl
 length-statement_code places to e (Return n) = refl
 
-later : (to more : ℕ) → to ≤ more → (calls : List Use) → All (EndsBy to) calls → All (EndsBy more) calls
+pub later : (to more : ℕ) → to ≤ more → (calls : List Use) → All (EndsBy to) calls → All (EndsBy more) calls
 later to more l calls a = All-to (EndsBy to) (EndsBy more) (λ call h. let m = h in omega (arith, m, l)) calls a
 
-earlier : (from less : ℕ) → less ≤ from → (calls : List Use) → All (BeginsFrom from) calls → All (BeginsFrom less) calls
+pub earlier : (from less : ℕ) → less ≤ from → (calls : List Use) → All (BeginsFrom from) calls → All (BeginsFrom less) calls
 earlier from less l calls a = All-to (BeginsFrom from) (BeginsFrom less) (λ call h. let m = h in omega (arith, m, l)) calls a
 
 -- where a function stands in a text of this size, and its code
