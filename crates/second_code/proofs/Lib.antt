@@ -1,6 +1,9 @@
 pub mod PutSteps
 pub mod CallSteps
 pub mod SecondRefines
+pub mod PartLemmas
+pub mod NameLemmas
+pub mod WholeParts
 pub mod Placing
 pub mod Linking
 pub mod PartsFit

@@ -19,6 +19,7 @@ use Rattle.elf_file.specs.Layout.{file_length}
 use Rattle.elf_file.specs.Written.{sizes_of}
 use Rattle.elf_file.specs.WellFormed.{WellFormed, SymbolFits, RelocFits, StandsBefore}
 use Rattle.second_code.specs.Parts as Parts
+use Rattle.second_code.specs.declared.definitions.Definition.{Definition}
 use Rattle.second_code.proofs.Placing.{length-open_body, EndsBy, BeginsFrom, uses_begin, uses_end, unit_uses_begin, earlier, All-to}
 
 -- a name is one of these
@@ -132,15 +133,15 @@ sights_all P names [] a b = a
 sights_all P names (name ∷ more) a b = sights_all P (insert_key bytes_eq names name) more (inserted_all P name names (list_any (bytes_eq name) names) (All-head P name more b) a) (All-tail P name more b)
 
 -- where a definition ends
-extent_within : (named local : Bool) (at size : ℕ) (body : Option (List SmallStmt)) (others : Option Parts.Definition) (definition : Parts.Definition) (end : ℕ) → at + Parts.body_size (Parts.body_of body) ≤ end
+extent_within : (named local : Bool) (at size : ℕ) (body : Option (List SmallStmt)) (others : Option Definition) (definition : Definition) (end : ℕ) → at + Parts.body_size (Parts.body_of body) ≤ end
     → (others ≡ Some definition → definition.begin + definition.extent ≤ end) → Parts.definition_or named local at body others ≡ Some definition → definition.begin + definition.extent ≤ end
 extent_within false local at size body others definition end l more e = more e
 extent_within true local at size None others definition end l more e = more e
 extent_within true local at size (Some body) others definition end l more e =
     let same = same_Some (record { local = local; begin = at; extent = Parts.body_size body }) definition e in
-    let P : Parts.Definition → Type 0 = λ d. d.begin + d.extent ≤ end in subst P same l
+    let P : Definition → Type 0 = λ d. d.begin + d.extent ≤ end in subst P same l
 
-definition_within : (items : List Item) (at : ℕ) (name : List ℕ) (definition : Parts.Definition) → Parts.definition_from at items name ≡ Some definition → definition.begin + definition.extent ≤ at + length (Parts.text_of items)
+definition_within : (items : List Item) (at : ℕ) (name : List ℕ) (definition : Definition) → Parts.definition_from at items name ≡ Some definition → definition.begin + definition.extent ≤ at + length (Parts.text_of items)
 definition_within [] at name definition e = absurd (none-some definition e)
 definition_within (item ∷ items) at name definition e =
     let body = Parts.body_of item.body in
@@ -236,7 +237,7 @@ module _ (items : List Item) (each : All IsItem items) where
       let sights : All IsFine (Parts.first_sights items) = sights_all IsFine [] (Parts.named items) (λ k d h. absurd (omega (arith, h))) (named_fine items each) in
       All-append IsFine _ _ (All-filter (λ name. Parts.is_static (Parts.definition_from 0 items name)) IsFine (Parts.first_sights items) sights) (All-filter (Parts.is_shared items) IsFine (Parts.first_sights items) sights)
 
-  symbol_fits : (name : List ℕ) → IsFine name → (o : Option Parts.Definition) → Parts.definition_from 0 items name ≡ o → SymbolFits sizes (Parts.symbol_from name o)
+  symbol_fits : (name : List ℕ) → IsFine name → (o : Option Definition) → Parts.definition_from 0 items name ≡ o → SymbolFits sizes (Parts.symbol_from name o)
   symbol_fits name fine None e = record { placed = refl; named = λ global. record { some = fine.some; no_section = λ e. cc; no_file = λ e. cc }; no_zero = fine.no_zero }
   symbol_fits name fine (Some definition) e =
       let within = definition_within items 0 name definition e in
@@ -245,12 +246,12 @@ module _ (items : List Item) (each : All IsItem items) where
   symbols_fit : All (SymbolFits sizes) (map (Parts.symbol_of items) (Parts.symbol_names items))
   symbols_fit = All-map (SymbolFits sizes) (Parts.symbol_of items) (Parts.symbol_names items) (All-to IsFine (λ name. SymbolFits sizes (Parts.symbol_of items name)) (λ name fine. symbol_fits name fine (Parts.definition_from 0 items name) refl) (Parts.symbol_names items) names_fine)
 
-  never_apart : (name : List ℕ) (o : Option Parts.Definition) → (Parts.symbol_from name o).place ≢ Absolute
+  never_apart : (name : List ℕ) (o : Option Definition) → (Parts.symbol_from name o).place ≢ Absolute
   never_apart name None e = cc
   never_apart name (Some definition) e = cc
 
   -- static definitions are local, and all others are not
-  local_is : (name : List ℕ) (o : Option Parts.Definition) → (Parts.symbol_from name o).local ≡ Parts.is_static o
+  local_is : (name : List ℕ) (o : Option Definition) → (Parts.symbol_from name o).local ≡ Parts.is_static o
   local_is name None = refl
   local_is name (Some definition) = refl
 

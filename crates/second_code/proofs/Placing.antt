@@ -14,7 +14,8 @@ use Rattle.clight_syntax.specs.declared.second_items.Item.{Item}
 use Rattle.clight_syntax.specs.SecondRun.{own, body_or}
 use Rattle.machine_steps.specs.StackAndCode.{Here}
 use Rattle.second_code.specs.Code.{Places, statement_size, statement_code, body_code, call_code}
-use Rattle.second_code.specs.Parts.{Use, Definition, open_call, open_statement, open_body, body_size, body_of, text_of, uses_from, unit_uses_from, definition_or, definition_from}
+use Rattle.second_code.specs.Parts.{Use, open_call, open_statement, open_body, body_size, body_of, text_of, uses_from, unit_uses_from, definition_or, definition_from}
+use Rattle.second_code.specs.declared.definitions.Definition.{Definition}
 use Rattle.second_code.specs.Placed.{relocated, Covers, IsRelocated, Placed}
 
 -- S + A - P counts from the end of the word

@@ -15,6 +15,7 @@ use Rattle.elf_file.specs.declared.parts.SymbolPart.{SymbolPart}
 use Rattle.elf_file.specs.Layout.{file_length}
 use Rattle.elf_file.specs.Written.{sizes_of}
 use Rattle.second_code.specs.Parts as Parts
+use Rattle.second_code.specs.declared.definitions.Definition.{Definition}
 use Rattle.second_code.proofs.Placing.{length-open_body}
 
 -- how many bytes the tokens have
@@ -137,7 +138,7 @@ names_total [] = refl
 names_total (symbol ∷ symbols) =
     let h = names_total symbols in let n = length-append (symbol.name ++ 0 ∷ []) (flat_map (λ symbol. symbol.name ++ 0 ∷ []) symbols) in let m = length-append symbol.name (0 ∷ []) in omega (arith, h, n, m)
 
-symbol_name : (name : List ℕ) (o : Option Parts.Definition) → (Parts.symbol_from name o).name ≡ name
+symbol_name : (name : List ℕ) (o : Option Definition) → (Parts.symbol_from name o).name ≡ name
 symbol_name name None = refl
 symbol_name name (Some definition) = refl
 

@@ -4,7 +4,8 @@ use Rattle.clight_syntax.specs.declared.second_items.Item.{Item}
 use Rattle.clight_syntax.specs.SecondRun.{Meaning, means, main_of}
 use Rattle.machine_steps.specs.StackAndCode.{Here}
 use Rattle.second_code.specs.Code.{Places, putbyte_code, start_code}
-use Rattle.second_code.specs.Parts.{Definition, definition_from}
+use Rattle.second_code.specs.Parts.{definition_from}
+use Rattle.second_code.specs.declared.definitions.Definition.{Definition}
 use Rattle.second_code.specs.Placed.{Placed}
 
 abbrev pub unit_at : List (List Item) → ℕ → List Item

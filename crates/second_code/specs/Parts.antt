@@ -14,6 +14,7 @@ use Rattle.elf_file.specs.declared.parts.SymbolKind.TheVariants.{NoType, Func}
 use Rattle.elf_file.specs.declared.parts.SymbolPlace.TheVariants.{Undefined, At}
 use Rattle.elf_file.specs.declared.parts.RelocKind.TheVariants.{Rel}
 use Rattle.second_code.specs.Code.{statement_size}
+use Rattle.second_code.specs.declared.definitions.Definition.{Definition}
 
 -- call, with -4 in its word until it is relocated
 abbrev pub open_call : List ℕ
@@ -60,12 +61,6 @@ uses_from at (Return n ∷ body) = uses_from (at + 6) body
 abbrev pub unit_uses_from : ℕ → List Item → List Use
 unit_uses_from at [] = []
 unit_uses_from at (item ∷ items) = uses_from at (body_of item.body) ++ unit_uses_from (at + body_size (body_of item.body)) items
-
--- where a function stands in text
-pub record Definition : Type 0 where
-  pub local : Bool
-  pub begin : ℕ
-  pub extent : ℕ
 
 abbrev pub definition_or : Bool → Bool → ℕ → Option (List SmallStmt) → Option Definition → Option Definition
 definition_or false local at body others = others
