@@ -1,0 +1,5 @@
+pub mod Lexical
+pub mod Scanning
+pub mod Grammar
+pub mod SameKind
+pub mod Programs
