@@ -1,8 +1,8 @@
 -- The object of a short text is short.
-use Rattle.std.specs.Prelude.{◌≡◌, ℕ, ◌+◌, ◌*◌, ◌<◌, ◌≤◌, ◌^◌, ◌==◌, List, [], ◌∷◌, ◌++◌, length, map, filter, Option, Some, None, Bool, true, false, if◌then◌else◌}
+use Rattle.std.specs.Prelude.{◌≡◌, ℕ, ◌+◌, ◌*◌, ◌≤◌, ◌==◌, List, [], ◌∷◌, ◌++◌, length, map, filter, Option, Some, None, IfSome, Bool, true, false, if◌then◌else◌}
 use Rattle.std.specs.List.{list_any, flat_map}
 use Rattle.std.specs.Str.{bytes_eq}
-use Rattle.std.proofs.Common.{arith, ◌∙◌, ap, refl, length-append}
+use Rattle.std.proofs.Common.{arith, ◌∙◌, ap, refl, subst, length-append}
 use Rattle.std.proofs.lemmas.List.{length-map}
 use Rattle.std.proofs.lemmas.List.Sums.{count_by-le-length}
 use Rattle.indexmap.specs.IndexSet.{insert_all, insert_key}
@@ -12,8 +12,7 @@ use Rattle.clight_syntax.specs.declared.second_items.Item.{Item}
 use Rattle.clight_syntax.specs.Tokens.{Token, Sign, spelling, Reads}
 use Rattle.clight_syntax.specs.SecondForm.{IsSecondForm, statement_tokens, statements_tokens, body_tokens, static_tokens, function_tokens, item_tokens, items_tokens}
 use Rattle.elf_file.specs.declared.parts.SymbolPart.{SymbolPart}
-use Rattle.elf_file.specs.Layout.{file_length}
-use Rattle.elf_file.specs.Written.{sizes_of}
+use Rattle.second_code.specs.Objects.{IsSmall}
 use Rattle.second_code.specs.Parts as Parts
 use Rattle.second_code.specs.declared.definitions.Definition.{Definition}
 use Rattle.second_code.proofs.Placing.{length-open_body}
@@ -146,12 +145,7 @@ symbols_names : (items : List Item) (names : List (List ℕ)) → total (map (λ
 symbols_names items [] = refl
 symbols_names items (name ∷ names) = let h = symbols_names items names in let n = ap length (symbol_name name (Parts.definition_from 0 items name)) in omega (arith, h, n)
 
--- how small the object of a text is
-pub record IsSmall (items : List Item) : Type 0 where
-  pub text : length (Parts.text_of items) < 2 ^ 32
-  pub symbols : length (Parts.symbol_names items) < 2 ^ 24
-  pub file : file_length (sizes_of (Parts.parts_of items)) < 2 ^ 32
-
+-- the object of a text of the form is small
 pub object_small : (text : List ℕ) (items : List Item) → IsSecondForm text items → IsSmall items
 object_small text items form =
     let tokens = items_tokens items in
@@ -167,3 +161,7 @@ object_small text items form =
     let second = count_by-le-length (λ reloc. reloc.section == 2) parts.relocs in
     let third = count_by-le-length (λ reloc. reloc.section == 3) parts.relocs in
     record { text = omega (arith, short, all, bytes); symbols = omega (arith, short, all, names, table, count); file = omega (arith, short, all, names, bytes, calls, table, count, symbols, relocs, strings, first, second, third) }
+
+-- what a reader gave is of the form
+pub form_of : (text : List ℕ) (o : Option (List Item)) (items : List Item) → IfSome o (IsSecondForm text) → o ≡ Some items → IsSecondForm text items
+form_of text o items h e = let P : Option (List Item) → Type 0 = λ x. IfSome x (IsSecondForm text) in subst P e h

@@ -1,12 +1,19 @@
 -- The object of a text of the second form.
-use Rattle.std.specs.Prelude.{ℕ, List}
+use Rattle.std.specs.Prelude.{ℕ, ◌^◌, ◌<◌, List, length}
 use Rattle.clight_syntax.specs.declared.second_items.Item.{Item}
 use Rattle.clight_syntax.specs.SecondForm.{IsSecondForm}
-use Rattle.elf_file.specs.Written.{Written}
-use Rattle.second_code.specs.Parts.{parts_of}
+use Rattle.elf_file.specs.Layout.{file_length}
+use Rattle.elf_file.specs.Written.{Written, sizes_of}
+use Rattle.second_code.specs.Parts.{text_of, symbol_names, parts_of}
 
 -- the text is of the second form, and the file is the one that is written for the parts of its items
 pub record IsObjectOf (text file : List ℕ) : Type 0 where
   pub items : List Item
   pub form : IsSecondForm text items
   pub written : Written (parts_of items) file
+
+-- numbers of 32 bits reach over the text and the file, and those of a relocation over the symbols
+pub record IsSmall (items : List Item) : Type 0 where
+  pub text : length (text_of items) < 2 ^ 32
+  pub symbols : length (symbol_names items) < 2 ^ 24
+  pub file : file_length (sizes_of (parts_of items)) < 2 ^ 32

@@ -1,6 +1,7 @@
 // What the object of a unit holds.
-ghost use Rattle.std.specs.Prelude.{◌≡◌, ◌^◌, ◌<◌, length, IfOk};
-ghost use Rattle.second_code.specs.Parts.{text_of, parts_of};
+ghost use Rattle.std.specs.Prelude.{◌≡◌, IfOk};
+ghost use Rattle.second_code.specs.Objects.{IsSmall};
+ghost use Rattle.second_code.specs.Parts.{parts_of};
 
 use crate::calls::calls;
 use crate::definitions::definitions;
@@ -15,9 +16,9 @@ use std::alloc::{AllocError, Global};
 
 /// What the object of a unit holds: its text, where each call's word holds -4, its symbols, the local ones first, and
 /// a relocation for each call. The time is linear in the unit, but for the look-ups of names. The only error is want
-/// of memory; 2 ^ 32 symbols or more are told as that.
+/// of memory.
 pub fn object_parts(alloc: Global, items: &SecondForm) -> Result<ObjectParts, AllocError>
-    requires { length (text_of items.now) < 2 ^ 32 }
+    requires { IsSmall items.now }
     ensures { IfOk result (λ parts. parts ≡ parts_of items.now) }
 {
     let items = items.as_slice();
@@ -42,14 +43,11 @@ mod tests {
     use clight_syntax::second_form;
     use elf_file::{SymbolKind, SymbolPart, SymbolPlace};
 
-    // The parts of the object of a unit, if its text has fewer than 2 ^ 32 bytes.
+    // The parts of the object of a unit.
     fn parts_of(alloc: Global, unit: &[u8]) -> Result<Option<ObjectParts>, AllocError> {
         let Some(items) = second_form(alloc, unit)? else {
             return Ok(None);
         };
-        if text(alloc, items.as_slice())?.len() > u32::MAX as usize {
-            return Ok(None);
-        }
         Ok(Some(object_parts(alloc, &items)?))
     }
 

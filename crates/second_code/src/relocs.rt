@@ -51,12 +51,9 @@ pub(crate) fn relocs(
     names: &[&[u8]],
     calls: &[CallSite<'_>],
 ) -> Result<RelocParts, AllocError>
+    requires { length names.now < 2 ^ 32 }
     ensures { IfOk result (λ relocs. relocs ≡ map (reloc_of (bytes_of names.now)) (map use_of calls.now)) }
 {
-    // A symbol's number has 32 bits: a table of more is too large for any memory of this machine.
-    if names.len() > u32::MAX as usize {
-        return Err(AllocError);
-    }
     let count = names.len() as u32;
     let numbers = numbers(alloc, names)?;
     let mut relocs = RelocParts::new(alloc);

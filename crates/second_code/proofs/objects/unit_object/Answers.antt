@@ -1,20 +1,14 @@
-use Rattle.std.proofs.Common.{List, ◌≡◌, IfSome, ℕ, sym, subst}
-use Rattle.std.specs.Prelude.{Option}
-use Rattle.clight_syntax.specs.declared.second_items.Item.{Item}
-use Rattle.clight_syntax.specs.SecondForm.{IsSecondForm}
+use Rattle.std.proofs.Common.{sym, subst}
 use Rattle.elf_file.specs.declared.parts.ObjectParts.{ObjectParts}
 use Rattle.elf_file.specs.WellFormed.{WellFormed}
 use Rattle.elf_file.specs.Written.{Written}
 use Rattle.second_code.proofs.PartsFit.{parts_fit}
-use Rattle.second_code.proofs.Sizes.{object_small}
+use Rattle.second_code.proofs.Sizes.{form_of, object_small}
 use Rattle.second_code.proofs.objects.unit_object.Goals as goal
-
-form_of : (text : List ℕ) (o : Option (List Item)) (items : List Item) → IfSome o (IsSecondForm text) → o ≡ Option.Some items → IsSecondForm text items
-form_of text o items h e = let P : Option (List Item) → Type 0 = λ x. IfSome x (IsSecondForm text) in subst P e h
 
 pub object_parts-requires : goal.object_parts-requires
 object_parts-requires c =
-    (object_small c.args.text.now c.in-Some.items (form_of c.args.text.now c.in_ok-items.field-0 c.in-Some.items c.in_ok-items.ensures.some c.in-Some.is)).text
+    object_small c.args.text.now c.in-Some.items (form_of c.args.text.now c.in_ok-items.field-0 c.in-Some.items c.in_ok-items.ensures.some c.in-Some.is)
 
 pub write_object-requires : goal.write_object-requires
 write_object-requires c =
