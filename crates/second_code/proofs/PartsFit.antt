@@ -20,7 +20,9 @@ use Rattle.elf_file.specs.Written.{sizes_of}
 use Rattle.elf_file.specs.WellFormed.{WellFormed, SymbolFits, RelocFits, StandsBefore}
 use Rattle.second_code.specs.Parts as Parts
 use Rattle.second_code.specs.declared.definitions.Definition.{Definition}
-use Rattle.second_code.proofs.Placing.{length-open_body, EndsBy, BeginsFrom, uses_begin, uses_end, unit_uses_begin, earlier, All-to}
+use Rattle.second_code.proofs.PartLemmas.{body_len}
+use Rattle.second_code.proofs.Sizes.{callees}
+use Rattle.second_code.proofs.Placing.{EndsBy, BeginsFrom, uses_begin, uses_end, unit_uses_begin, earlier, All-to}
 
 -- a name is one of these
 abbrev pub In : List ℕ → List (List ℕ) → Type 0
@@ -145,14 +147,11 @@ definition_within : (items : List Item) (at : ℕ) (name : List ℕ) (definition
 definition_within [] at name definition e = absurd (none-some definition e)
 definition_within (item ∷ items) at name definition e =
     let body = Parts.body_of item.body in
-    let n = length-append (Parts.open_body body) (Parts.text_of items) in let s = length-open_body body in
+    let n = length-append (Parts.open_body body) (Parts.text_of items) in let s = body_len body in
     extent_within (bytes_eq item.name name) item.local at 0 item.body (Parts.definition_from (at + Parts.body_size body) items name) definition (at + length (Parts.open_body body ++ Parts.text_of items)) (omega (arith, n, s))
     (λ e. let h = definition_within items (at + Parts.body_size body) name definition e in omega (arith, h, n, s)) e
 
 -- calls name what is named
-abbrev callees : List Parts.Use → List (List ℕ)
-callees calls = map (λ call. call.callee) calls
-
 among : (calls : List Parts.Use) → All (λ call. In call.callee (callees calls)) calls
 among [] = λ k d h. absurd (omega (arith, h))
 among (call ∷ calls) = All-cons (λ (c : Parts.Use). In c.callee (callees (call ∷ calls))) call calls (inl refl) (All-to (λ c. In c.callee (callees calls)) (λ c. In c.callee (callees (call ∷ calls))) (λ c h. inr h) calls (among calls))
@@ -187,7 +186,7 @@ unit_uses_end : (items : List Item) (at to : ℕ) → at + length (Parts.text_of
 unit_uses_end [] at to l = λ k d h. absurd (omega (arith, h))
 unit_uses_end (item ∷ items) at to l =
     let body = Parts.body_of item.body in
-    let n = length-append (Parts.open_body body) (Parts.text_of items) in let s = length-open_body body in
+    let n = length-append (Parts.open_body body) (Parts.text_of items) in let s = body_len body in
     All-append (EndsBy to) (Parts.uses_from at body) (Parts.unit_uses_from (at + Parts.body_size body) items) (uses_end at to body (omega (arith, l, n, s))) (unit_uses_end items (at + Parts.body_size body) to (omega (arith, l, n, s)))
 
 -- each call's word ends before the next one's begins

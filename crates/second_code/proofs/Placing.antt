@@ -16,6 +16,7 @@ use Rattle.machine_steps.specs.StackAndCode.{Here}
 use Rattle.second_code.specs.Code.{Places, statement_size, statement_code, body_code, call_code}
 use Rattle.second_code.specs.Parts.{Use, open_call, open_statement, open_body, body_size, body_of, text_of, uses_from, unit_uses_from, definition_or, definition_from}
 use Rattle.second_code.specs.declared.definitions.Definition.{Definition}
+use Rattle.second_code.proofs.PartLemmas.{body_len}
 use Rattle.second_code.specs.Placed.{relocated, Covers, IsRelocated, Placed}
 
 -- S + A - P counts from the end of the word
@@ -89,12 +90,6 @@ unit_uses_begin at from [] l = λ k d h. absurd (omega (arith, h))
 unit_uses_begin at from (item ∷ items) l =
     All-append (BeginsFrom from) (uses_from at (body_of item.body)) (unit_uses_from (at + body_size (body_of item.body)) items)
     (uses_begin at from (body_of item.body) l) (unit_uses_begin (at + body_size (body_of item.body)) from items (omega (arith, l)))
-
-pub length-open_body : (body : List SmallStmt) → length (open_body body) ≡ body_size body
-length-open_body [] = refl
-length-open_body (Put n ∷ body) = let h = length-open_body body in omega (arith, h)
-length-open_body (Call name ∷ body) = let h = length-open_body body in omega (arith, h)
-length-open_body (Return n ∷ body) = let h = length-open_body body in omega (arith, h)
 
 length-statement_code : (places : Places) (to : List ℕ → ℕ) (e : ℕ) (statement : SmallStmt) → length (statement_code places to e statement) ≡ statement_size statement
 length-statement_code places to e (Put n) = refl
@@ -254,7 +249,7 @@ module _ (code : List ℕ) (origin : ℕ) (target : List ℕ → ℕ) (text : Li
     unit_there [] from before after pre post name f t c b a = tt
     unit_there (item ∷ items) from before after pre post name f t c b a =
         let body : List SmallStmt = body_of item.body in
-        let size = length-open_body body in
+        let size = body_len body in
         let n = ap length t ∙ length-append pre ((open_body body ++ text_of items) ++ post) in
         let n1 = length-append pre (open_body body) in
         let n2 = length-append (open_body body) (text_of items) in

@@ -15,7 +15,7 @@ use Rattle.elf_file.specs.declared.parts.SymbolPart.{SymbolPart}
 use Rattle.second_code.specs.Objects.{IsSmall}
 use Rattle.second_code.specs.Parts as Parts
 use Rattle.second_code.specs.declared.definitions.Definition.{Definition}
-use Rattle.second_code.proofs.Placing.{length-open_body}
+use Rattle.second_code.proofs.PartLemmas.{body_len}
 
 -- how many bytes the tokens have
 pub spelled : List Token → ℕ
@@ -66,7 +66,7 @@ filter_total p [] = omega arith
 filter_total p (name ∷ names) = passed_total name (filter p names) (p name) (total names) (filter_total p names)
 
 -- what the names, the calls and the code of a body are, beside its tokens
-abbrev callees : List Parts.Use → List (List ℕ)
+abbrev pub callees : List Parts.Use → List (List ℕ)
 callees calls = map (λ call. call.callee) calls
 
 body_total : (at : ℕ) (body : List SmallStmt) → total (callees (Parts.uses_from at body)) ≤ spelled (statements_tokens body)
@@ -111,7 +111,7 @@ unit_bytes [] = omega arith
 unit_bytes (item ∷ items) =
     let h = unit_bytes items in let s = spelled-append (item_tokens item) (items_tokens items) in let i = item_spelled item in
     let body = Parts.body_of item.body in
-    let n = length-append (Parts.open_body body) (Parts.text_of items) in let o = length-open_body body in let b = body_bytes body in
+    let n = length-append (Parts.open_body body) (Parts.text_of items) in let o = body_len body in let b = body_bytes body in
     omega (arith, h, s, i, n, o, b)
 
 pub unit_calls : (at : ℕ) (items : List Item) → length (Parts.unit_uses_from at items) ≤ spelled (items_tokens items)
