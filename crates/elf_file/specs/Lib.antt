@@ -7,4 +7,6 @@ pub mod Object
 pub mod View
 pub mod Entry
 pub mod Read
+pub mod Image
+pub mod ImageView
 pub mod Checks

@@ -2,6 +2,7 @@
 use Rattle.std.specs.Prelude.{◌≡◌, ℕ, ◌^◌, ◌<◌, List, [], All}
 use Rattle.elf_file.specs.Written.{Written}
 use Rattle.elf_file.specs.WellFormed.{WellFormed}
+use Rattle.elf_file.specs.Object.{Object, object_of}
 use Rattle.elf_file.specs.declared.parts.ObjectParts.{ObjectParts}
 
 -- there is text, and no other section has bytes
@@ -20,3 +21,11 @@ pub record IsFileOf (parts : ObjectParts) (file : List ℕ) : Type 0 where
   pub in_range : InRange parts
   pub only_text : OnlyText parts
   pub written : Written parts file
+
+-- what every object that is read is: the object of well-formed parts, with text alone
+pub record IsObject (object : Object) : Type 0 where
+  pub parts : ObjectParts
+  pub well_formed : WellFormed parts
+  pub in_range : InRange parts
+  pub only_text : OnlyText parts
+  pub is : object ≡ object_of parts

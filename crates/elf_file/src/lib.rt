@@ -9,6 +9,9 @@
 mod bytes;
 mod fault;
 mod fields;
+mod image;
+mod image_file;
+mod image_view;
 mod layout;
 mod parts;
 mod read;
@@ -16,6 +19,9 @@ mod view;
 mod write;
 
 pub use fault::ElfFault;
+pub use image::{ImageParts, SegmentPart, SegmentParts};
+pub use image_file::write_image;
+pub use image_view::{ImageView, read_image};
 pub use parts::{
     KeptKind, ObjectParts, RelocKind, RelocPart, RelocParts, SymbolKind, SymbolPart, SymbolParts,
     SymbolPlace,

@@ -1,7 +1,7 @@
 // An object in its file.
 ghost use Rattle.std.specs.Prelude.{◌≡◌, ◌^◌, ◌<◌, length, IfOk, IsErrOf, MatchResult};
 ghost use Rattle.elf_file.specs.Object.{Object, section_of, symbol_of, reloc_of, HasBytes, object_of};
-ghost use Rattle.elf_file.specs.Read.{IsFileOf};
+ghost use Rattle.elf_file.specs.Read.{IsFileOf, IsObject};
 ghost use Rattle.elf_file.specs.declared.parts.ObjectParts.{ObjectParts};
 ghost use Rattle.elf_file.specs.Entry.{IsEntry};
 
@@ -26,13 +26,13 @@ pub struct ObjectView<'a> {
 
 impl<'a> Model for ObjectView<'a> {
     ghost use Rattle.elf_file.specs.Object.{Object, object_in};
-    ghost use Rattle.elf_file.specs.View.{IsWhole};
+    ghost use Rattle.elf_file.specs.View.{IsView};
 
     ghost Value = { Object };
 
     ghost view = { λ v. object_in v.file.now v.sizes };
 
-    ghost invariant = { λ v. IsWhole v.file.now v.sizes v.at };
+    ghost invariant = { λ v. IsView v.file.now v.sizes v.at };
 }
 
 impl<'a> ObjectView<'a> {
@@ -185,6 +185,13 @@ impl<'a> ObjectView<'a> {
             self.at.zeros + RELOC_SIZE * index as u32,
             RELOC_SIZE,
         ))
+    }
+
+    /// A law of every object that is read: it is that of well-formed parts, with text alone. It does nothing.
+    pub fn has_text_alone(&self)
+        ensures { IsObject self.now }
+    {
+        let _ = &self.sizes;
     }
 
     // The entry of a symbol.

@@ -28,3 +28,8 @@ pub returns-clause-back : goal.returns-clause-back
 returns-clause-back c =
     let f = found c.args.file.now c.in-Some.sizes (λ i. omega (arith, c.type_inv.file i)) c.requires c.in-Some.ensures.some (c.in_ok-all_stands.ensures.0 c.if-not-branch.false) in
     λ parts is. object_back c.args.file.now c.in-Some.sizes parts c.in-Some.ensures.some is f
+
+pub invariant_of-result : goal.invariant_of-result
+invariant_of-result c =
+    let f = found c.args.file.now c.in-Some.sizes (λ i. omega (arith, c.type_inv.file i)) c.requires c.in-Some.ensures.some (c.in_ok-all_stands.ensures.0 c.if-not-branch.false) in
+    record { whole = record { whole = c.in-Some.ensures.some.whole; small = c.requires; places = c.of-at.ensures }; object = record { parts = parts_in c.args.file.now c.in-Some.sizes; well_formed = f.0.well_formed; in_range = f.0.in_range; only_text = f.0.only_text; is = f.1 } }

@@ -1,0 +1,5 @@
+pub mod Runtime
+pub mod Placement
+pub mod Names
+pub mod Inputs
+pub mod Linked
