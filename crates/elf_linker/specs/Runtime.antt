@@ -3,6 +3,7 @@ use Rattle.std.specs.Prelude.{ℕ, List, [], ◌∷◌, ◌++◌, codes, false}
 use Rattle.elf_file.specs.Object.{Object, object_of}
 use Rattle.elf_file.specs.declared.parts.ObjectParts.{ObjectParts}
 use Rattle.elf_file.specs.declared.parts.SymbolPart.{SymbolPart}
+use Rattle.elf_file.specs.declared.parts.RelocPart.{RelocPart}
 use Rattle.elf_file.specs.declared.parts.SymbolKind.TheVariants.{NoType, Func}
 use Rattle.elf_file.specs.declared.parts.SymbolPlace.TheVariants.{Undefined, At}
 use Rattle.elf_file.specs.declared.parts.RelocKind.TheVariants.{Rel}
@@ -32,16 +33,16 @@ runtime_function name value size = record { name = name; local = false; kind = F
 abbrev pub main_symbol : SymbolPart
 main_symbol = record { name = codes "main"; local = false; kind = NoType; place = Undefined; value = 0; size = 0 }
 
--- text alone, four symbols that others see, and the call of `main`
+abbrev pub runtime_symbols : List SymbolPart
+runtime_symbols = runtime_function (codes "_start") 0 14 ∷ main_symbol ∷ runtime_function (codes "getbyte") 14 56 ∷ runtime_function (codes "putbyte") 70 24 ∷ []
+
+-- the call of `main`
+abbrev pub runtime_relocs : List RelocPart
+runtime_relocs = record { section = 1; offset = 1; symbol = 2; kind = Rel } ∷ []
+
+-- text alone, with four symbols that others see
 abbrev pub runtime : ObjectParts
-runtime = record {
-  text = runtime_text;
-  fixed = [];
-  held = [];
-  zeros = 0;
-  symbols = runtime_function (codes "_start") 0 14 ∷ main_symbol ∷ runtime_function (codes "getbyte") 14 56 ∷ runtime_function (codes "putbyte") 70 24 ∷ [];
-  relocs = record { section = 1; offset = 1; symbol = 2; kind = Rel } ∷ [];
-}
+runtime = record { text = runtime_text; fixed = []; held = []; zeros = 0; symbols = runtime_symbols; relocs = runtime_relocs }
 
 -- the objects of an image: those that are given, and the runtime as the last one
 abbrev pub with_runtime : List Object → List Object
