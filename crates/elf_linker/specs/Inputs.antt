@@ -1,5 +1,5 @@
 -- The objects that are given to the linker.
-use Rattle.std.specs.Prelude.{◌≤◌, ℕ, List, length, All}
+use Rattle.std.specs.Prelude.{◌≤◌, List, length, All}
 use Rattle.elf_file.specs.Object.{Object}
 use Rattle.elf_file.specs.Read.{IsObject}
 

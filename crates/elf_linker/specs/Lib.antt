@@ -3,3 +3,4 @@ pub mod Placement
 pub mod Names
 pub mod Inputs
 pub mod Linked
+pub mod LinkSteps

@@ -1,5 +1,5 @@
 -- Where the sections of objects stand in memory. These objects have text alone.
-use Rattle.std.specs.Prelude.{ℕ, zero, suc, ◌+◌, ◌*◌, ◌/◌, List, [], ◌∷◌, ◌==◌, if◌then◌else◌, slice_index_or}
+use Rattle.std.specs.Prelude.{ℕ, zero, suc, ◌+◌, ◌*◌, ◌/◌, List, [], ◌∷◌, ◌==◌, if◌then◌else◌}
 use Rattle.elf_file.specs.Object.{Object, Section, section_of}
 
 -- the first address of text, and the end of all addresses of an image

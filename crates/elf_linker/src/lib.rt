@@ -6,10 +6,16 @@
 //! - Names that are defined twice, not at all, or with another size, and too much text, are refused (`specs/Names.antt`).
 #![tactic(auto)]
 
+mod addresses;
+mod definitions;
 mod fault;
 mod inputs;
 mod linking;
+mod objects;
+mod placement;
+mod relocating;
 mod runtime;
+mod uses;
 
 pub use fault::LinkFault;
 pub use inputs::Inputs;

@@ -1,5 +1,6 @@
 // The runtime object.
 ghost use Rattle.std.specs.Prelude.{◌≡◌, IfOk};
+ghost use Rattle.elf_file.specs.WellFormed.{WellFormed};
 ghost use Rattle.elf_linker.specs.Runtime.{runtime, runtime_function, main_symbol, runtime_symbols, runtime_relocs, runtime_text};
 
 use cc_base::{Bytes, Name};
@@ -9,7 +10,8 @@ use elf_file::{
 use std::alloc::{AllocError, Global};
 
 /// `_start`, `getbyte` and `putbyte`, one behind the other.
-const TEXT: &[u8; 94] = b"\xe8\xfc\xff\xff\xff\x89\xc3\xb8\x01\0\0\0\xcd\x80\x53\x81\xec\x04\0\0\0\xbb\0\0\0\0\x89\xe1\xba\x01\0\0\0\xb8\x03\0\0\0\xcd\x80\x85\xc0\x0f\x84\x09\0\0\0\x0f\xb6\x04\x24\xe9\x05\0\0\0\xb8\xff\xff\xff\xff\x81\xc4\x04\0\0\0\x5b\xc3\x53\xbb\x01\0\0\0\x8d\x4c\x24\x08\xba\x01\0\0\0\xb8\x04\0\0\0\xcd\x80\x5b\xc3";
+const TEXT: &[u8; 94] =
+    b"\xe8\xfc\xff\xff\xff\x89\xc3\xb8\x01\0\0\0\xcd\x80\x53\x81\xec\x04\0\0\0\xbb\0\0\0\0\x89\xe1\xba\x01\0\0\0\xb8\x03\0\0\0\xcd\x80\x85\xc0\x0f\x84\x09\0\0\0\x0f\xb6\x04\x24\xe9\x05\0\0\0\xb8\xff\xff\xff\xff\x81\xc4\x04\0\0\0\x5b\xc3\x53\xbb\x01\0\0\0\x8d\x4c\x24\x08\xba\x01\0\0\0\xb8\x04\0\0\0\xcd\x80\x5b\xc3";
 
 // A function of the runtime: its name, its place in text, and its size.
 fn function(alloc: Global, name: &[u8], value: u32, size: u32) -> Result<SymbolPart, AllocError>
@@ -73,7 +75,9 @@ fn text(alloc: Global) -> Result<Bytes, AllocError>
 /// The runtime object, which is linked behind all others: `_start`, which calls `main` and ends with its result,
 /// `getbyte` and `putbyte`. The only error is want of memory.
 pub fn runtime_parts(alloc: Global) -> Result<ObjectParts, AllocError>
-    ensures { IfOk result (λ parts. parts ≡ runtime) }
+    ensures runtime { IfOk result (λ parts. parts ≡ runtime) }
+    // It may be written.
+    ensures well_formed { IfOk result (λ parts. WellFormed parts) }
 {
     Ok(ObjectParts {
         text: text(alloc)?,

@@ -1,0 +1,11 @@
+pub mod FirstAnswers
+pub mod Noting
+pub mod Using
+pub mod Placing
+pub mod Addressing
+pub mod Patching
+pub mod Relocated
+pub mod Words
+pub mod Making
+pub mod RuntimeFits
+pub mod WholeLinking
