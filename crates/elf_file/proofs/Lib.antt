@@ -17,3 +17,6 @@ pub mod PartsForth
 pub mod ReadBack
 pub mod TestFacts
 pub mod OneFile
+pub mod WordsStand
+pub mod ImageFacts
+pub mod ImageRead

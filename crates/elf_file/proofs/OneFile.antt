@@ -13,7 +13,7 @@ use Rattle.elf_file.proofs.StandsFacts.{stands_join, stands_empty, stands_at}
 use Rattle.elf_file.proofs.WrittenPieces.{relocs_in_sections, length_gap}
 
 -- pieces that stand one behind the other stand as one
-together : (file : List ℕ) (pieces : List (List ℕ)) (at : ℕ) → AllStand file at pieces → Stands file at (joined pieces)
+pub together : (file : List ℕ) (pieces : List (List ℕ)) (at : ℕ) → AllStand file at pieces → Stands file at (joined pieces)
 unfolding joined
 together file [] at s = stands_empty file at
 together file (piece ∷ pieces) at s = stands_join file piece (joined pieces) at s.0 (together file pieces (at + length piece) s.1)

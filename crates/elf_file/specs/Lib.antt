@@ -9,4 +9,5 @@ pub mod Entry
 pub mod Read
 pub mod Image
 pub mod ImageView
+pub mod ImageNumbers
 pub mod Checks

@@ -1,10 +1,13 @@
 // An image in its file.
-ghost use Rattle.std.specs.Prelude.{◌≡◌, ◌^◌, ◌<◌, length, IfOk, IsErrOf, MatchResult};
+ghost use Rattle.std.specs.Prelude.{◌≡◌, ℕ, List, ◌^◌, ◌<◌, length, IfOk, IsErrOf, MatchResult};
 ghost use Rattle.elf_file.specs.Image.{IsImageOf};
-ghost use Rattle.elf_file.specs.ImageView.{segment_of};
+ghost use Rattle.elf_file.specs.ImageView.{segment_of, SegmentsApart};
 ghost use Rattle.elf_file.specs.declared.image.ImageParts.{ImageParts};
 
 use crate::fault::ElfFault;
+use crate::fields::slice_at;
+use crate::image_headers::{HEADERS, contents_at};
+use crate::image_read::{image_stands, numbers_of};
 use std::alloc::Global;
 use std::marker::Model;
 
@@ -20,11 +23,14 @@ pub struct ImageView<'a> {
 
 impl<'a> Model for ImageView<'a> {
     ghost use Rattle.std.specs.Prelude.{[], ◌∷◌};
+    ghost use Rattle.elf_file.specs.ImageView.{SegmentFits};
     ghost use Rattle.elf_file.specs.declared.image.ImageParts.{ImageParts};
 
     ghost Value = { ImageParts };
 
     ghost view = { λ v. record { entry = v.entry; segments = record { start = v.start; flags = v.flags; size = v.size; bytes = v.bytes.now } ∷ [] } };
+
+    ghost invariant = { λ v. SegmentFits (record { start = v.start; flags = v.flags; size = v.size; bytes = v.bytes.now }) };
 }
 
 impl<'a> ImageView<'a> {
@@ -78,6 +84,14 @@ impl<'a> ImageView<'a> {
         let _ = index;
         self.bytes
     }
+
+    /// A law of every image that is read: its segments are not empty, have no more bytes than their sizes, and each
+    /// lies behind the one before it. It does nothing.
+    pub fn has_segments_apart(&self)
+        ensures { SegmentsApart self.now }
+    {
+        let _ = &self.entry;
+    }
 }
 
 /// The image of a file: of the one file that is written for well-formed parts of one segment. Every other file is
@@ -92,6 +106,23 @@ pub fn read_image(alloc: Global, file: &[u8]) -> Result<ImageView<'_>, ElfFault>
     ensures back { (parts : ImageParts) → IsImageOf parts file.now → MatchResult result (λ view. view ≡ parts) (λ fault. fault ≡ ElfFault.Memory) }
 {
     let _ = alloc;
-    let _ = file;
-    Err(ElfFault::Memory)
+    if file.len() < HEADERS as usize {
+        return Err(ElfFault::Form);
+    }
+    let numbers = numbers_of(file);
+    if !image_stands(file, numbers) {
+        return Err(ElfFault::Form);
+    }
+    Ok(ImageView {
+        bytes: slice_at(file, contents_at(numbers), numbers.file_size),
+        entry: numbers.entry,
+        start: numbers.start,
+        flags: numbers.flags,
+        size: numbers.size,
+    })
 }
+
+/// A file is the image of one parts only.
+pub fn image_has_one_meaning()
+    ensures { (one other : ImageParts) (file : List ℕ) → IsImageOf one file → IsImageOf other file → one ≡ other }
+{}

@@ -11,6 +11,8 @@ mod fault;
 mod fields;
 mod image;
 mod image_file;
+mod image_headers;
+mod image_read;
 mod image_view;
 mod layout;
 mod parts;
@@ -20,8 +22,8 @@ mod write;
 
 pub use fault::ElfFault;
 pub use image::{ImageParts, SegmentPart, SegmentParts};
-pub use image_file::write_image;
-pub use image_view::{ImageView, read_image};
+pub use image_file::{image_has_one_file, write_image};
+pub use image_view::{ImageView, image_has_one_meaning, read_image};
 pub use parts::{
     KeptKind, ObjectParts, RelocKind, RelocPart, RelocParts, SymbolKind, SymbolPart, SymbolParts,
     SymbolPlace,
@@ -29,5 +31,7 @@ pub use parts::{
 pub use view::{ObjectView, read_object};
 pub use write::{has_one_file, write_object};
 
+#[cfg(test)]
+mod image_tests;
 #[cfg(test)]
 mod tests;

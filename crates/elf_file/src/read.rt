@@ -41,7 +41,7 @@ fn sizes_at_headers(file: &[u8], headers: usize) -> Sizes
 }
 
 // Whether these bytes stand at a place of the file.
-fn stands(file: &[u8], at: u32, bytes: &[u8]) -> bool
+pub(crate) fn stands(file: &[u8], at: u32, bytes: &[u8]) -> bool
     requires inside { at + length bytes.now ≤ length file.now }
     requires small { length file.now < 2 ^ 32 }
     ensures { IsTrue result ↔ Stands file.now at bytes.now }
@@ -50,7 +50,7 @@ fn stands(file: &[u8], at: u32, bytes: &[u8]) -> bool
 }
 
 // Whether there are only zeros from one place of the file up to another.
-fn zeros_stand(file: &[u8], from: u32, to: u32) -> bool
+pub(crate) fn zeros_stand(file: &[u8], from: u32, to: u32) -> bool
     requires order { from ≤ to }
     requires inside { to ≤ length file.now }
     ensures { IsTrue result ↔ ZerosUpTo file.now from to }

@@ -1,5 +1,5 @@
 -- The machine that an image starts, and what the image does (gABI, chapter 5: program loading, process initialization).
-use Rattle.std.specs.Prelude.{◌≡◌, ℕ, ◌+◌, ◌/◌, ◌%◌, ◌==◌, nat_lt, nat_le, Bool, cond, not, ◌||◌, ◌&&◌, List, [], ◌∷◌, map, Option, Some, None}
+use Rattle.std.specs.Prelude.{ℕ, ◌+◌, ◌/◌, ◌%◌, ◌==◌, nat_lt, nat_le, Bool, cond, ◌||◌, ◌&&◌, List, ◌∷◌, map, Option, Some, None}
 use Rattle.std.specs.List.{list_any}
 use Rattle.std.specs.Option.{option_or}
 use Rattle.cc_base.specs.Runs.{State}
@@ -38,9 +38,15 @@ leaves segment = nat_lt segment.start 0x08048000 || nat_lt 0x09048000 (segment.s
 abbrev pub has_entry : ℕ → SegmentPart → Bool
 has_entry entry segment = is_executable segment && (nat_le segment.start entry && nat_lt entry (segment.start + segment.size))
 
+-- the first segment that is a fault, where segments are counted from 0
+abbrev pub first_outside : ImageParts → Option LoadFault
+first_outside image = first_answer (λ index segment. cond (leaves segment) (Some (Segment index)) None) 0 image.segments
+
+abbrev pub without_entry : ImageParts → Option LoadFault
+without_entry image = cond (list_any (has_entry image.entry) image.segments) None (Some Entry)
+
 abbrev pub load_fault : ImageParts → Option LoadFault
-load_fault image = option_or (first_answer (λ index segment. cond (leaves segment) (Some (Segment index)) None) 0 image.segments)
-    (cond (list_any (has_entry image.entry) image.segments) None (Some Entry))
+load_fault image = option_or (first_outside image) (without_entry image)
 
 -- what the image does on an input, after so many instructions
 abbrev pub image_after : ImageParts → List ℕ → ℕ → State

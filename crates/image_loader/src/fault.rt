@@ -9,9 +9,7 @@ use std::alloc::AllocError;
 #[derive(Clone, Copy, Debug, PartialEq, Eq)]
 pub enum LoadFault {
     /// A segment leaves the addresses from 0x08048000 up to 0x09048000. It is counted from 0.
-    Segment {
-        index: u32,
-    },
+    Segment { index: u32 },
     /// No executable segment has the entry.
     Entry,
     /// There is not enough memory.

@@ -10,3 +10,6 @@ mod loading;
 
 pub use fault::LoadFault;
 pub use loading::load;
+
+#[cfg(test)]
+mod tests;
