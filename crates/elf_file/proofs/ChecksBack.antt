@@ -77,7 +77,7 @@ names_back parts file is =
     }
 
 -- where each symbol up to a place is local, as many are
-all_local : (symbols : List SymbolPart) (k : ℕ) → k ≤ length symbols → ((i : ℕ) → i < k → (get_or symbols i no_symbol).local ≡ true) → count_by (λ symbol. symbol.local) (take k symbols) ≡ k
+pub all_local : (symbols : List SymbolPart) (k : ℕ) → k ≤ length symbols → ((i : ℕ) → i < k → (get_or symbols i no_symbol).local ≡ true) → count_by (λ symbol. symbol.local) (take k symbols) ≡ k
 all_local symbols zero h each = refl
 all_local symbols (suc k) h each =
     let next : k + 1 ≡ suc k = omega arith in

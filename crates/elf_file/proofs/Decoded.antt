@@ -49,7 +49,7 @@ place_number-small sections symbol Undefined h = omega arith
 place_number-small sections symbol (At n) h = omega (arith, h.1)
 place_number-small sections symbol Absolute h = omega arith
 
-place_read : (sections : List ℕ) (symbol : SymbolPart) (place : SymbolPlace) → IsPlaced sections symbol place → place_of (place_number place) ≡ place
+pub place_read : (sections : List ℕ) (symbol : SymbolPart) (place : SymbolPlace) → IsPlaced sections symbol place → place_of (place_number place) ≡ place
 place_read sections symbol Undefined h = refl
 place_read sections symbol (At n) h =
     let some = h.0 in let few = h.1 in
@@ -57,7 +57,7 @@ place_read sections symbol (At n) h =
     ∙ ap (λ (b : Bool). if b then Absolute else At n) (ne_eqb n 0xfff1 (λ e. omega arith))
 place_read sections symbol Absolute h = refl
 
-half_read : (n : ℕ) → n < 2 ^ 16 → n % 256 + 256 * (n / 256 % 256) ≡ n
+pub half_read : (n : ℕ) → n < 2 ^ 16 → n % 256 + 256 * (n / 256 % 256) ≡ n
 half_read n h = omega arith
 
 pub same_symbol : (a b : SymbolPart) → a.name ≡ b.name → a.local ≡ b.local → a.kind ≡ b.kind → a.place ≡ b.place → a.value ≡ b.value → a.size ≡ b.size → a ≡ b
@@ -85,7 +85,7 @@ reloc_kind_read : (k : RelocKind) → reloc_kind_of (reloc_number k) ≡ k
 reloc_kind_read Abs = refl
 reloc_kind_read Rel = refl
 
-reloc_number-small : (k : RelocKind) → reloc_number k < 256
+pub reloc_number-small : (k : RelocKind) → reloc_number k < 256
 reloc_number-small Abs = omega arith
 reloc_number-small Rel = omega arith
 

@@ -52,7 +52,7 @@ contents_of n some = ⊎_elim (λ (p : (n.file_size ≡ 0) × (contents_at n ≡
 no_contents : (n : Numbers) → n.file_size ≡ 0 → contents_at n ≡ 84
 no_contents n none = ⊎_elim (λ (p : (n.file_size ≡ 0) × (contents_at n ≡ 84)). p.1) (λ (p : (0 < n.file_size) × (contents_at n ≡ offset_of n.start)). absurd (omega arith)) (placed n)
 
-no_bytes : (bytes : List ℕ) → length bytes ≡ 0 → bytes ≡ []
+pub no_bytes : (bytes : List ℕ) → length bytes ≡ 0 → bytes ≡ []
 no_bytes [] h = refl
 no_bytes (b ∷ bytes) h = absurd (omega arith)
 
@@ -68,7 +68,7 @@ contents_by parts segment file w (inr some) =
     let P : ℕ → Type 0 = λ to. ZerosUpTo file 84 to in
     (subst P there (w.gap some), stands_at (w.bytes some) (contents_at n) there)
 
-some_or_none : (k : ℕ) → (k ≡ 0) ⊎ (0 < k)
+pub some_or_none : (k : ℕ) → (k ≡ 0) ⊎ (0 < k)
 some_or_none zero = inl refl
 some_or_none (suc k) = inr (omega arith)
 

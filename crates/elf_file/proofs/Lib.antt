@@ -20,3 +20,10 @@ pub mod OneFile
 pub mod WordsStand
 pub mod ImageFacts
 pub mod ImageRead
+pub mod FieldsStand
+pub mod ImageBytesFacts
+pub mod SectionHeaders
+pub mod SectionsFit
+pub mod SymbolsShown
+pub mod RelocsShown
+pub mod ObjectBytesFacts

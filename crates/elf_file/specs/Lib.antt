@@ -10,4 +10,7 @@ pub mod Read
 pub mod Image
 pub mod ImageView
 pub mod ImageNumbers
+pub mod HeaderBytes
+pub mod ImageBytes
+pub mod ObjectBytes
 pub mod Checks

@@ -1,6 +1,7 @@
 // An image in its file.
 ghost use Rattle.std.specs.Prelude.{◌≡◌, ℕ, List, ◌^◌, ◌<◌, length, IfOk, IsErrOf, MatchResult};
 ghost use Rattle.elf_file.specs.Image.{IsImageOf};
+ghost use Rattle.elf_file.specs.ImageBytes.{ImageBytes};
 ghost use Rattle.elf_file.specs.ImageView.{segment_of, SegmentsApart};
 ghost use Rattle.elf_file.specs.declared.image.ImageParts.{ImageParts};
 
@@ -100,6 +101,8 @@ pub fn read_image(alloc: Global, file: &[u8]) -> Result<ImageView<'_>, ElfFault>
     requires { length file.now < 2 ^ 32 }
     // The file is the one that is written for what is read.
     ensures ok { IfOk result (λ view. IsImageOf view file.now) }
+    // So its fields say what is read.
+    ensures bytes { IfOk result (λ view. ImageBytes view file.now) }
     // A file is refused only where it is the file of no parts.
     ensures form { IsErrOf result ElfFault.Form → (parts : ImageParts) → IsImageOf parts file.now → ⊥ }
     // What is written for parts is read back as those parts, unless there is no memory.

@@ -2,6 +2,7 @@
 ghost use Rattle.std.specs.Prelude.{◌≡◌, ◌^◌, ◌<◌, length, IfOk, IsErrOf, MatchResult};
 ghost use Rattle.elf_file.specs.Object.{Object, section_of, symbol_of, reloc_of, HasBytes, object_of};
 ghost use Rattle.elf_file.specs.Read.{IsFileOf, IsObject};
+ghost use Rattle.elf_file.specs.ObjectBytes.{ObjectBytes};
 ghost use Rattle.elf_file.specs.declared.parts.ObjectParts.{ObjectParts};
 ghost use Rattle.elf_file.specs.Entry.{IsEntry};
 
@@ -213,6 +214,8 @@ pub fn read_object(alloc: Global, file: &[u8]) -> Result<ObjectView<'_>, ElfFaul
     requires { length file.now < 2 ^ 32 }
     // What is read is the object of parts, and the file is the one that is written for them.
     ensures ok { IfOk result (λ view. (parts : ObjectParts) × IsFileOf parts file.now × (view ≡ object_of parts)) }
+    // So its fields say what is read.
+    ensures bytes { IfOk result (λ view. ObjectBytes view file.now) }
     // A file is refused only where it is the file of no parts.
     ensures form { IsErrOf result ElfFault.Form → (parts : ObjectParts) → IsFileOf parts file.now → ⊥ }
     // What is written for parts is read back as their object, unless there is no memory.

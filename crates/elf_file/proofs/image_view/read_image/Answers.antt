@@ -4,6 +4,8 @@ use Rattle.elf_file.specs.Image.{IsImageOf}
 use Rattle.elf_file.specs.ImageNumbers.{numbers_in, ImageStands, image_at}
 use Rattle.elf_file.specs.declared.image.ImageParts.{ImageParts}
 use Rattle.elf_file.specs.declared.image_headers.Numbers.{Numbers}
+use Rattle.elf_file.specs.ImageBytes.{ImageBytes}
+use Rattle.elf_file.proofs.ImageBytesFacts.{ImageBytes-written}
 use Rattle.elf_file.proofs.ImageRead.{image_with, found_image, stands_back, image_back, slice_is}
 use Rattle.elf_file.proofs.image_view.read_image.Goals as goal
 
@@ -29,3 +31,9 @@ pub returns-clause-back : goal.returns-clause-back
 returns-clause-back c =
     λ parts is. ap (λ (xs : List ℕ). image_with c.numbers_of-numbers.result xs) (slice_is c.args.file.now c.slice_at.result.now c.numbers_of-numbers.result c.contents_at.result c.slice_at.ensures.bytes c.contents_at.ensures)
     ∙ ap (λ (n : Numbers). image_at c.args.file.now n) c.numbers_of-numbers.ensures ∙ image_back parts c.args.file.now is
+
+pub returns-clause-bytes : goal.returns-clause-bytes
+returns-clause-bytes c =
+    let f = found_image c.args.file.now c.numbers_of-numbers.result (λ i. omega (arith, c.type_inv.file i)) c.numbers_of-numbers.ensures (c.image_stands.ensures.0 c.if-not-image_stands.false) in
+    let P : List ℕ → Type 0 = λ xs. ImageBytes (image_with c.numbers_of-numbers.result xs) c.args.file.now in
+    subst P (sym (slice_is c.args.file.now c.slice_at.result.now c.numbers_of-numbers.result c.contents_at.result c.slice_at.ensures.bytes c.contents_at.ensures)) (ImageBytes-written (image_at c.args.file.now c.numbers_of-numbers.result) c.args.file.now f)

@@ -1,4 +1,7 @@
-use Rattle.std.proofs.Common.{sym, ◌∙◌, arith}
+use Rattle.std.proofs.Common.{sym, subst, ◌∙◌, arith}
+use Rattle.elf_file.specs.Object.{Object}
+use Rattle.elf_file.specs.ObjectBytes.{ObjectBytes}
+use Rattle.elf_file.proofs.ObjectBytesFacts.{ObjectBytes-text}
 use Rattle.std.proofs.lemmas.Bool.{false≢true}
 use Rattle.elf_file.specs.Written.{sizes_of}
 use Rattle.elf_file.specs.Checks.{parts_in}
@@ -33,3 +36,9 @@ pub invariant_of-result : goal.invariant_of-result
 invariant_of-result c =
     let f = found c.args.file.now c.in-Some.sizes (λ i. omega (arith, c.type_inv.file i)) c.requires c.in-Some.ensures.some (c.in_ok-all_stands.ensures.0 c.if-not-branch.false) in
     record { whole = record { whole = c.in-Some.ensures.some.whole; small = c.requires; places = c.of-at.ensures }; object = record { parts = parts_in c.args.file.now c.in-Some.sizes; well_formed = f.0.well_formed; in_range = f.0.in_range; only_text = f.0.only_text; is = f.1 } }
+
+pub returns-clause-bytes : goal.returns-clause-bytes
+returns-clause-bytes c =
+    let f = found c.args.file.now c.in-Some.sizes (λ i. omega (arith, c.type_inv.file i)) c.requires c.in-Some.ensures.some (c.in_ok-all_stands.ensures.0 c.if-not-branch.false) in
+    let P : Object → Type 0 = λ object. ObjectBytes object c.args.file.now in
+    subst P (sym f.1) (ObjectBytes-text (parts_in c.args.file.now c.in-Some.sizes) c.args.file.now f.0)
