@@ -1,0 +1,3 @@
+pub mod EachSteps
+pub mod Compilations
+pub mod FromMachine

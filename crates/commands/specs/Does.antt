@@ -1,0 +1,36 @@
+-- What each command does, in this order.
+use Rattle.std.specs.Prelude.{ℕ, List, length, map}
+use Rattle.command_words.specs.Commands.{Request, Compile, Link, Run, Exec, object_name}
+use Rattle.commands.specs.declared.answer.Answer.TheVariants as answer
+use Rattle.commands.specs.Doing.{Command, Says, Then, Each}
+use Rattle.commands.specs.Steps.{Fetches, Stores, CompilesTo, Links, Runs}
+
+-- compile: get UNIT, compile it, put OBJECT
+abbrev pub compile_does : List ℕ → List ℕ → Command
+compile_does unit object = Then (CompilesTo unit object) (λ bytes. Says (answer.ObjectStored (length bytes)))
+
+-- link: get all objects, read and link them, put IMAGE
+abbrev pub link_does : List ℕ → List (List ℕ) → Command
+link_does image objects =
+    Then (Each Fetches objects) (λ files.
+    Then (Links objects files) (λ bytes.
+    Then (Stores image bytes) (λ _.
+    Says (answer.ImageStored (length bytes)))))
+
+-- run: get IMAGE, read, load and run it
+abbrev pub run_does : ℕ → List ℕ → Command
+run_does steps image = Then (Fetches image) (λ bytes. Runs steps image bytes)
+
+-- exec: for each unit get it, compile it and put its object; read these bytes and link them, put IMAGE; read, load and run the bytes that were put
+abbrev pub exec_does : ℕ → List ℕ → List (List ℕ) → Command
+exec_does steps image units =
+    Then (Each (λ unit. CompilesTo unit (object_name unit)) units) (λ files.
+    Then (Links (map object_name units) files) (λ bytes.
+    Then (Stores image bytes) (λ _.
+    Runs steps image bytes)))
+
+abbrev pub does : Request → Command
+does (Compile unit object) = compile_does unit object
+does (Link image objects) = link_does image objects
+does (Run steps image) = run_does steps image
+does (Exec steps image units) = exec_does steps image units

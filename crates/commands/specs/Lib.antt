@@ -1,0 +1,4 @@
+pub mod Doing
+pub mod Answers
+pub mod Steps
+pub mod Does

@@ -1,0 +1,63 @@
+// Units that are compiled, each alone.
+ghost use Rattle.std.specs.Prelude.{◌≡◌, List, ℕ, map};
+ghost use Rattle.cc_base.specs.Seen.{SourceSeen, SinkSeen};
+ghost use Rattle.command_words.specs.Commands.{object_name};
+ghost use Rattle.command_words.specs.Orders.{texts};
+ghost use Rattle.commands.specs.Doing.{outside, Each};
+ghost use Rattle.commands.specs.Steps.{Compiled, CompilesTo};
+
+use crate::answer::Answer;
+use crate::files::{Contents, fetch, keep, store};
+use cc_base::{Bytes, Files, Name};
+use second_code::unit_object;
+use std::alloc::Global;
+
+// The object of a text, which has this name. No other text has a part in it.
+fn compile(alloc: Global, name: &str, text: &[u8]) -> Result<Bytes, Answer>
+    ensures { Compiled name.now text.now result }
+{
+    let Ok(object) = unit_object(alloc, text) else {
+        return Err(Answer::Memory);
+    };
+    if let Some(object) = object {
+        return Ok(Bytes::from_vec(object));
+    }
+    match Name::from_slice(alloc, name.as_bytes()) {
+        Ok(which) => Err(Answer::LimitForm(which)),
+        Err(_) => Err(Answer::Memory),
+    }
+}
+
+// Gets a unit, compiles it, and puts its object under this name.
+pub(crate) fn compile_to<F: Files>(
+    alloc: Global,
+    files: &mut F,
+    unit: &str,
+    object: &str,
+) -> Result<Bytes, Answer>
+    ensures { (input : SourceSeen) (output : SinkSeen) → CompilesTo unit.now object.now (outside (F.seen files.old) input output) result (outside (F.seen files.new) input output) }
+{
+    let text = fetch(alloc, files, unit)?;
+    let bytes = compile(alloc, unit, text.as_slice())?;
+    store(alloc, files, object, bytes.as_slice())?;
+    Ok(bytes)
+}
+
+/// Gets each of these units, compiles it alone, and puts its object under its name. After the first refusal nothing
+/// more is done.
+pub fn compile_all<F: Files>(
+    alloc: Global,
+    files: &mut F,
+    units: &[String],
+    objects: &[String],
+) -> Result<Contents, Answer>
+    requires { texts objects.now ≡ map object_name (texts units.now) }
+    ensures { (input : SourceSeen) (output : SinkSeen) → Each (λ unit. CompilesTo unit (object_name unit)) (texts units.now) (outside (F.seen files.old) input output) result (outside (F.seen files.new) input output) }
+{
+    let mut contents = Contents::new(alloc);
+    for index in 0..units.len() {
+        let bytes = compile_to(alloc, files, units[index].as_str(), objects[index].as_str())?;
+        keep(&mut contents, bytes)?;
+    }
+    Ok(contents)
+}
