@@ -1,11 +1,4 @@
 pub mod DigitLemmas
-pub mod ElementLemmas
 pub mod FrontLemmas
-pub mod CutLemmas
-pub mod SameLaws
-pub mod Sound
-pub mod ProgramWalks
-pub mod ProgramSteps
-pub mod ExpressionsRead
-pub mod StatementsRead
-pub mod DeclarationsRead
+pub mod ValueLemmas
+pub mod LiteralLemmas

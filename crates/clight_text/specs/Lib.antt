@@ -1,5 +1,15 @@
 pub mod Lexical
 pub mod Scanning
+pub mod Spelled
 pub mod Grammar
 pub mod SameKind
 pub mod Programs
+pub mod SameLaws
+pub mod Sound
+pub mod ProgramWalks
+pub mod ProgramSteps
+pub mod ExpressionsRead
+pub mod StatementsRead
+pub mod DeclarationsRead
+pub mod ElementLemmas
+pub mod CutLemmas

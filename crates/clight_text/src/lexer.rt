@@ -1,6 +1,8 @@
 // A text is cut into tokens by longest match.
 ghost use Rattle.std.specs.Prelude.{◌≡◌, ℕ, List, IfOk, IfErr};
+ghost use Rattle.std.specs.List.{All};
 ghost use Rattle.clight_text.specs.Scanning.{Ending, IsCut, HasTokens, HasTokenFault};
+ghost use Rattle.clight_text.specs.Spelled.{IsSpelled};
 ghost use Rattle.clight_text.specs.declared.token_list.Token.{Token as TokenValue};
 
 use crate::fault::SyntaxFault;
@@ -15,6 +17,7 @@ const TEXT_MAX: usize = 1_048_576;
 /// where the text has more than 1,048,576 bytes, else the first place where no token or no literal stands.
 pub fn tokens(alloc: Global, text: &[u8]) -> Result<Tokens, SyntaxFault>
     ensures tokens { IfOk result (HasTokens text.now) }
+    ensures spelled { IfOk result (All (IsSpelled text.now)) }
     ensures fault { IfErr result (HasTokenFault text.now) }
 {
     if text.len() > TEXT_MAX {

@@ -10,9 +10,11 @@ mod lexer;
 mod spelling;
 mod token_list;
 mod tree;
+mod values;
 
 pub use fault::SyntaxFault;
 pub use grammar::{one_tree, one_tree_of_an_expression};
+pub use kind::{Kind, Level};
 pub use lexer::{cut_in_one_way, tokens};
 pub use token_list::{Token, TokenKind, Tokens};
 pub use tree::{
@@ -20,3 +22,4 @@ pub use tree::{
     Initialised, Initialiser, Linkage, LocalItem, LocalValue, Locals, Members, NameAt, Number,
     ObjectItem, Parameter, Simple, Stmt, Tree, TypeName, UnaryOp,
 };
+pub use values::{character_value, is_unsigned_number, number_value, string_value};

@@ -92,7 +92,7 @@ fn is_simple_escape(byte: u8) -> bool
     byte == b'n' || byte == b't' || byte == b'r' || byte == b'\\' || byte == b'\'' || byte == b'"'
 }
 
-fn is_octal_digit(byte: u8) -> bool
+pub fn is_octal_digit(byte: u8) -> bool
     ensures { result ≡ is_octal_digit byte }
 {
     char::from(byte).is_digit(8)
@@ -112,7 +112,7 @@ pub fn word_length(text: &[u8]) -> usize
     text.iter().take_while(|byte| is_word_byte(**byte)).count()
 }
 
-fn octal_count(text: &[u8]) -> usize
+pub fn octal_count(text: &[u8]) -> usize
     ensures value { result ≡ prefix_len is_octal_digit text.now }
     ensures within { result ≤ length text.now }
 {
@@ -121,7 +121,7 @@ fn octal_count(text: &[u8]) -> usize
         .count()
 }
 
-fn hex_count(text: &[u8]) -> usize
+pub fn hex_count(text: &[u8]) -> usize
     ensures value { result ≡ prefix_len is_hex_digit text.now }
     ensures within { result ≤ length text.now }
 {
@@ -129,7 +129,7 @@ fn hex_count(text: &[u8]) -> usize
 }
 
 // The value of the digits, where each is one of the radix and the value is less than 2^32.
-fn digits_value(radix: u32, digits: &[u8]) -> Option<u32>
+pub fn digits_value(radix: u32, digits: &[u8]) -> Option<u32>
     requires low { 2 ≤ radix }
     requires high { radix ≤ 36 }
     ensures { SomeIff result (AllDigits radix digits.now × (digits_value radix digits.now < 2 ^ 32)) (digits_value radix digits.now) }
@@ -143,7 +143,7 @@ fn digits_value(radix: u32, digits: &[u8]) -> Option<u32>
 }
 
 #[tactic(auto, unfolding(crate::specs::Lexical::is_unsigned))]
-fn is_unsigned(run: &[u8]) -> bool
+pub fn is_unsigned(run: &[u8]) -> bool
     requires { 1 ≤ length run.now }
     ensures { result ≡ is_unsigned run.now }
 {
@@ -321,7 +321,7 @@ fn escape(text: &[u8]) -> Option<usize>
 }
 
 #[tactic(auto, unfolding(crate::specs::Lexical::element))]
-fn element(quote: u8, text: &[u8]) -> Option<usize>
+pub fn element(quote: u8, text: &[u8]) -> Option<usize>
     ensures value { result ≡ element quote text.now }
     ensures within { IfSome result (λ n. (1 ≤ n) × (n ≤ length text.now)) }
 {

@@ -1,4 +1,4 @@
-use Rattle.clight_text.proofs.DeclarationsRead.{one_unit}
+use Rattle.clight_text.specs.DeclarationsRead.{one_unit}
 use Rattle.clight_text.proofs.grammar.one_tree.Goals as goal
 
 pub returns : goal.returns

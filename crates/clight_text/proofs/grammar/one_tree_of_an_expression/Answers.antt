@@ -1,4 +1,4 @@
-use Rattle.clight_text.proofs.ExpressionsRead.{one_expression}
+use Rattle.clight_text.specs.ExpressionsRead.{one_expression}
 use Rattle.clight_text.proofs.grammar.one_tree_of_an_expression.Goals as goal
 
 pub returns : goal.returns

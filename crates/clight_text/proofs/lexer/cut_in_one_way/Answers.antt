@@ -1,4 +1,4 @@
-use Rattle.clight_text.proofs.CutLemmas.{one_way}
+use Rattle.clight_text.specs.CutLemmas.{one_way}
 use Rattle.clight_text.proofs.lexer.cut_in_one_way.Goals as goal
 
 pub returns : goal.returns

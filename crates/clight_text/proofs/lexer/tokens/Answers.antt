@@ -1,7 +1,10 @@
-use Rattle.std.proofs.Common.{arith}
+use Rattle.std.proofs.Common.{arith, drop}
+use Rattle.std.proofs.lemmas.List.Elements.{All-push}
 use Rattle.std.proofs.lemmas.List.{take_rest}
 use Rattle.clight_text.specs.Scanning.{no_token, bad_literal, NoTokenAt, BadLiteralAt}
-use Rattle.clight_text.proofs.CutLemmas.{continues_blank, continues_token, found_whole, found_before, room_left}
+use Rattle.clight_text.specs.Spelled.{IsSpelled}
+use Rattle.clight_text.proofs.LiteralLemmas.{front_literal}
+use Rattle.clight_text.specs.CutLemmas.{continues_blank, continues_token, found_whole, found_before, room_left}
 use Rattle.clight_text.proofs.lexer.tokens.Goals as goal
 
 pub loop-at-preserved-in-Blank : goal.loop-at-preserved-in-Blank
@@ -9,6 +12,7 @@ loop-at-preserved-in-Blank c =
     record {
       within = omega (arith, c.in-Blank.ensures.within.1);
       continues = continues_blank c.args.text.now c.loop-at.at c.in-Blank.length c.loop-at.found (rw take_rest at c.in-Blank.ensures.is) c.loop-at.invariant.continues;
+      spelled = c.loop-at.invariant.spelled;
     }
 
 pub loop-at-preserved : goal.loop-at-preserved
@@ -18,6 +22,13 @@ loop-at-preserved c =
       continues =
           rw c.in_ok-push-in-Token.ensures.ok
           (continues_token c.args.text.now c.loop-at.at c.in-Token.length c.in-Token.kind c.loop-at.found (rw take_rest at c.in-Token.ensures.is) c.loop-at.invariant.continues);
+      spelled =
+          rw c.in_ok-push-in-Token.ensures.ok
+          (All-push (IsSpelled c.args.text.now) c.loop-at.found (record { kind = c.in-Token.kind; start = c.loop-at.at; length = c.in-Token.length }) c.loop-at.invariant.spelled
+          (record {
+            within = omega (arith, c.in-Token.ensures.within.1);
+            literal = front_literal (drop c.loop-at.at c.args.text.now) c.in-Token.kind c.in-Token.length (rw take_rest at c.in-Token.ensures.is);
+          }));
     }
 
 pub returns-in-BadLiteral-clause-fault : goal.returns-in-BadLiteral-clause-fault

@@ -1,6 +1,6 @@
 use Rattle.std.proofs.Common.{arith, sym}
 use Rattle.std.proofs.lemmas.List.{take_rest}
-use Rattle.clight_text.proofs.ElementLemmas.{closed_here, none_here, none_at_all, reaches_further, passes_further}
+use Rattle.clight_text.specs.ElementLemmas.{closed_here, none_here, none_at_all, reaches_further, passes_further}
 use Rattle.clight_text.proofs.spelling.elements.Goals as goal
 
 pub returns-then-text-at-eq34-clause-value : goal.returns-then-text-at-eq34-clause-value

@@ -1,0 +1,66 @@
+#!/bin/sh
+# Times `parse` on generated texts of 64 KiB up to 1 MiB, beside `tcc -c` on the same files where tcc is installed: see
+# README.md beside this file.
+set -eu
+
+top=$(cd "$(dirname "$0")/.." && pwd)
+folder=$(mktemp -d)
+trap 'rm -rf "$folder"' EXIT
+program=$folder/crates/parse_bench
+
+mkdir -p "$program/src"
+(cd "$top" && tar cf - --exclude=out crates/cc_base crates/clight_text crates/clight_parser) | (cd "$folder" && tar xf -)
+grep -E '^(cc_base|clight_text|clight_parser):' "$top/crates.txt" > "$folder/crates.txt"
+echo 'parse_bench: clight_parser' >> "$folder/crates.txt"
+
+cat > "$program/src/main.rt" <<'END'
+//! Parses the file that the first argument names, and says whether it is a unit's text.
+#![tactic(auto)]
+
+use clight_parser::parse;
+use std::{env, fs, io};
+
+fn main(rt: HostRuntime) -> io::Result<()> {
+    let mut words = env::args(&rt)?;
+    let _ = words.next();
+    let Some(path) = words.next() else {
+        return Ok(());
+    };
+    let text = fs::read(&rt, path.as_str())?;
+    match parse(rt.alloc(), text.as_slice()) {
+        Ok(tree) => println!(rt; "{} declarations", tree.len()),
+        Err(_) => println!(rt; "a fault"),
+    }
+}
+END
+
+# Functions with some of everything, up to so many bytes.
+text() {
+    awk -v most="$1" 'BEGIN {
+        for (n = 0; size < most - 400; n++) {
+            line = sprintf("struct node%d { int key, *next[4]; char name[16]; };\n", n)
+            line = line sprintf("static int table%d[] = { 1, 2 + 3 * 4, -5, (6 << 2) | 1, 0x1F & ~7, sizeof (int *) };\n", n)
+            line = line sprintf("int find%d(struct node%d *p, int key) { register int i = 0;\n", n, n)
+            line = line "  for (i = 0; i < 4; i = i + 1) { if (p->next[i] == 0 && key != p[i].key) { continue; } else { return table" n "[i] + key % 7; } }\n"
+            line = line sprintf("  while (key > 0) { key = key - 1; i = find%d(p, key); } return -i; }\n", n)
+            size += length(line)
+            printf "%s", line
+        }
+    }'
+}
+
+cd "$program"
+text 65536 > "$folder/first.c"
+rt run -- "$folder/first.c" > "$folder/log" 2>&1 || { cat "$folder/log"; exit 1; }
+built=$(find "$program/out" -maxdepth 1 -type f -perm -u+x | head -n 1)
+for size in 65536 131072 262144 524288 1048576; do
+    text "$size" > "$folder/$size.c"
+    bytes=$(wc -c < "$folder/$size.c")
+    found=$("$built" "$folder/$size.c")
+    /usr/bin/time -o "$folder/measured" -f '%U s, %M KiB' "$built" "$folder/$size.c" > /dev/null
+    printf 'parse   %8d bytes: %s (%s)\n' "$bytes" "$(cat "$folder/measured")" "$found"
+    if command -v tcc > /dev/null; then
+        /usr/bin/time -o "$folder/measured" -f '%U s, %M KiB' tcc -c -o "$folder/object" "$folder/$size.c" 2> /dev/null || true
+        printf 'tcc -c  %8d bytes: %s\n' "$bytes" "$(tail -n 1 "$folder/measured")"
+    fi
+done

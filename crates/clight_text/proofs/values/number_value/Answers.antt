@@ -1,0 +1,5 @@
+use Rattle.clight_text.proofs.ValueLemmas.{number_some}
+use Rattle.clight_text.proofs.values.number_value.Goals as goal
+
+pub number-requires : goal.number-requires
+number-requires c = number_some c.args.run.now c.requires
