@@ -24,12 +24,12 @@ use Rattle.second_code.proofs.Placing.{Stands, placed_there, on-here}
 use Rattle.clight_syntax.specs.SecondRun.{Meaning, own, shown, body_or, meaning_or, shown_by, means, second_after}
 
 -- a definition that a unit shows is one of an item that is not static
-record Shows (items : List Item) (name : List ℕ) : Type 0 where
-  place : ℕ
-  item : Item
-  at : IsAt items place item
-  global : item.local ≡ false
-  named : bytes_eq item.name name ≡ true
+pub record Shows (items : List Item) (name : List ℕ) : Type 0 where
+  pub place : ℕ
+  pub item : Item
+  pub at : IsAt items place item
+  pub global : item.local ≡ false
+  pub named : bytes_eq item.name name ≡ true
 
 shows_after : (first : Item) (items : List Item) (name : List ℕ) → Shows items name → Shows (first ∷ items) name
 shows_after first items name s = record { place = suc s.place; item = s.item; at = s.at; global = s.global; named = s.named }
@@ -41,11 +41,11 @@ first_shown item items name body more false l true s None h = shows_after item i
 first_shown item items name body more false l false s o h = shows_after item items name (more h)
 first_shown item items name body more true l same s o h = shows_after item items name (more h)
 
-shown_item : (items : List Item) (name : List ℕ) (body : List SmallStmt) → shown items name ≡ Some body → Shows items name
+pub shown_item : (items : List Item) (name : List ℕ) (body : List SmallStmt) → shown items name ≡ Some body → Shows items name
 shown_item [] name body e = absurd (none-some body e)
 shown_item (item ∷ items) name body e = first_shown item items name body (shown_item items name body) item.local refl (bytes_eq item.name name) refl item.body e
 
-alike_tail : (item : Item) (items : List Item) → StaticAlike (item ∷ items) → StaticAlike items
+pub alike_tail : (item : Item) (items : List Item) → StaticAlike (item ∷ items) → StaticAlike items
 alike_tail item items h i j a b p q n = h (suc i) (suc j) a b p q n
 
 -- what a unit shows is its own definition, where all items of a name are static or none is
@@ -74,11 +74,11 @@ own_body (item ∷ items) name body each e = first_body (bytes_eq item.name name
   first_body false o is others more e = more e
 
 -- the unit that shows a name first
-record ShownBy (number : ℕ) (units : List (List Item)) (name : List ℕ) (meaning : Meaning) : Type 0 where
-  place : ℕ
-  unit_is : meaning.unit ≡ number + place
-  inside : place < length units
-  is : shown (unit_at units place) name ≡ Some meaning.body
+pub record ShownBy (number : ℕ) (units : List (List Item)) (name : List ℕ) (meaning : Meaning) : Type 0 where
+  pub place : ℕ
+  pub unit_is : meaning.unit ≡ number + place
+  pub inside : place < length units
+  pub is : shown (unit_at units place) name ≡ Some meaning.body
 
 first_shows : (number : ℕ) (unit : List Item) (units : List (List Item)) (name : List ℕ) (meaning : Meaning) → (shown_by (suc number) units name ≡ Some meaning → ShownBy (suc number) units name meaning)
     → (o : Option (List SmallStmt)) → shown unit name ≡ o → meaning_or number o (shown_by (suc number) units name) ≡ Some meaning → ShownBy number (unit ∷ units) name meaning
@@ -88,12 +88,12 @@ first_shows number unit units name meaning more (Some body) n e =
     let same : record { unit = number; body = body } ≡ meaning = same_Some (record { unit = number; body = body }) meaning e in
     record { place = 0; unit_is = sym (ap (λ (m : Meaning). m.unit) same) ∙ (let z : number ≡ number + 0 = omega arith in z); inside = omega arith; is = n ∙ ap (λ (m : Meaning). Some m.body) same }
 
-shows_by : (number : ℕ) (units : List (List Item)) (name : List ℕ) (meaning : Meaning) → shown_by number units name ≡ Some meaning → ShownBy number units name meaning
+pub shows_by : (number : ℕ) (units : List (List Item)) (name : List ℕ) (meaning : Meaning) → shown_by number units name ≡ Some meaning → ShownBy number units name meaning
 shows_by number [] name meaning e = absurd (none-some meaning e)
 shows_by number (unit ∷ units) name meaning e = first_shows number unit units name meaning (shows_by (suc number) units name meaning) (shown unit name) refl e
 
 -- what defines a name is one of the units
-own_inside : (units : List (List Item)) (unit : ℕ) (name : List ℕ) (body : List SmallStmt) → own (unit_at units unit) name ≡ Some body → unit < length units
+pub own_inside : (units : List (List Item)) (unit : ℕ) (name : List ℕ) (body : List SmallStmt) → own (unit_at units unit) name ≡ Some body → unit < length units
 own_inside [] unit name body e = absurd (none-some body e)
 own_inside (first ∷ units) zero name body e = omega arith
 own_inside (first ∷ units) (suc unit) name body e = let h = own_inside units unit name body e in omega (arith, h)

@@ -15,12 +15,7 @@ use Rattle.clight_syntax.specs.declared.second_items.SmallStmt.TheVariants.{Put,
 use Rattle.second_code.specs.Parts.{uses_from}
 use Rattle.second_code.specs.PartSteps.{bytes_of}
 use Rattle.second_code.proofs.PartLemmas.{dropped}
-
--- tests
-same_tests : (a b : Bool) → (a ≡ true → b ≡ true) → (b ≡ true → a ≡ true) → a ≡ b
-same_tests true b f g = sym (f refl)
-same_tests false true f g = g refl
-same_tests false false f g = refl
+use Rattle.second_code.proofs.Tests.{same_tests}
 
 pub bytes_sym : (xs ys : List ℕ) → bytes_eq xs ys ≡ bytes_eq ys xs
 bytes_sym xs ys =

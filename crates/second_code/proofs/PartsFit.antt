@@ -23,6 +23,7 @@ use Rattle.second_code.specs.declared.definitions.Definition.{Definition}
 use Rattle.second_code.proofs.PartLemmas.{body_len}
 use Rattle.second_code.proofs.Sizes.{callees}
 use Rattle.second_code.proofs.Placing.{EndsBy, BeginsFrom, uses_begin, uses_end, unit_uses_begin, earlier, All-to}
+use Rattle.second_code.proofs.Tests.{or_later}
 
 -- a name is one of these
 abbrev pub In : List ℕ → List (List ℕ) → Type 0
@@ -34,7 +35,7 @@ in-left name [] ys h = elim h [ ]
 in-left name (x ∷ xs) ys (inl e) = inl e
 in-left name (x ∷ xs) ys (inr h) = inr (in-left name xs ys h)
 
-in-right : (name : List ℕ) (xs ys : List (List ℕ)) → In name ys → In name (xs ++ ys)
+pub in-right : (name : List ℕ) (xs ys : List (List ℕ)) → In name ys → In name (xs ++ ys)
 in-right name [] ys h = h
 in-right name (x ∷ xs) ys h = inr (in-right name xs ys h)
 
@@ -58,7 +59,7 @@ all_kept : (name : List ℕ) (names more : List (List ℕ)) → In name names �
 all_kept name names [] h = h
 all_kept name names (other ∷ more) h = all_kept name (insert_key bytes_eq names other) more (inserted_kept name other names (list_any (bytes_eq other) names) h)
 
-all_in : (name : List ℕ) (names more : List (List ℕ)) → In name more → In name (insert_all bytes_eq names more)
+pub all_in : (name : List ℕ) (names more : List (List ℕ)) → In name more → In name (insert_all bytes_eq names more)
 all_in name names [] h = elim h [ ]
 all_in name names (other ∷ more) (inl e) =
     let P : List ℕ → Type 0 = λ n. In n (insert_all bytes_eq (insert_key bytes_eq names other) more) in
@@ -73,7 +74,7 @@ passed_rest : (name first : List ℕ) (rest : List (List ℕ)) (b : Bool) → In
 passed_rest name first rest true h = inr h
 passed_rest name first rest false h = h
 
-in-filter : (p : List ℕ → Bool) (name : List ℕ) (names : List (List ℕ)) → In name names → p name ≡ true → In name (filter p names)
+pub in-filter : (p : List ℕ → Bool) (name : List ℕ) (names : List (List ℕ)) → In name names → p name ≡ true → In name (filter p names)
 in-filter p name [] h passes = elim h [ ]
 in-filter p name (first ∷ rest) (inl e) passes = passed_first p name first rest (p first) refl e passes
 in-filter p name (first ∷ rest) (inr h) passes = passed_rest name first (filter p rest) (p first) (in-filter p name rest h passes)
@@ -85,7 +86,7 @@ numbered_first first name rest true e h more = (omega arith, omega arith)
 numbered_first first name rest false e (inl same) more = let clash : true ≡ false = sym ((bytes_eq-Decides first name).1 (sym same)) ∙ e in cc
 numbered_first first name rest false e (inr h) more = let m = more h in (omega arith, omega (arith, m.1))
 
-numbered : (names : List (List ℕ)) (name : List ℕ) → In name names → (0 < Parts.number_in names name) × (Parts.number_in names name ≤ length names)
+pub numbered : (names : List (List ℕ)) (name : List ℕ) → In name names → (0 < Parts.number_in names name) × (Parts.number_in names name ≤ length names)
 numbered [] name h = elim h [ ]
 numbered (first ∷ rest) name h = numbered_first first name rest (bytes_eq first name) refl h (numbered rest name)
 
@@ -143,7 +144,7 @@ extent_within true local at size (Some body) others definition end l more e =
     let same = same_Some (record { local = local; begin = at; extent = Parts.body_size body }) definition e in
     let P : Definition → Type 0 = λ d. d.begin + d.extent ≤ end in subst P same l
 
-definition_within : (items : List Item) (at : ℕ) (name : List ℕ) (definition : Definition) → Parts.definition_from at items name ≡ Some definition → definition.begin + definition.extent ≤ at + length (Parts.text_of items)
+pub definition_within : (items : List Item) (at : ℕ) (name : List ℕ) (definition : Definition) → Parts.definition_from at items name ≡ Some definition → definition.begin + definition.extent ≤ at + length (Parts.text_of items)
 definition_within [] at name definition e = absurd (none-some definition e)
 definition_within (item ∷ items) at name definition e =
     let body = Parts.body_of item.body in
@@ -162,7 +163,7 @@ same_callees at other (Put n ∷ body) = ap (λ (names : List (List ℕ)). codes
 same_callees at other (Call name ∷ body) = ap (λ (names : List (List ℕ)). name ∷ names) (same_callees (at + 5) (other + 5) body)
 same_callees at other (Return n ∷ body) = same_callees (at + 6) (other + 6) body
 
-unit_among : (items : List Item) (at : ℕ) → All (λ call. In call.callee (Parts.named items)) (Parts.unit_uses_from at items)
+pub unit_among : (items : List Item) (at : ℕ) → All (λ call. In call.callee (Parts.named items)) (Parts.unit_uses_from at items)
 unit_among [] at = λ k d h. absurd (omega (arith, h))
 unit_among (item ∷ items) at =
     let body = Parts.body_of item.body in let own = Parts.uses_from at body in
@@ -172,11 +173,7 @@ unit_among (item ∷ items) at =
     (All-to (λ call. In call.callee (Parts.named items)) (λ call. In call.callee (Parts.named (item ∷ items)))
     (λ call h. inr (in-right call.callee (callees (Parts.uses_from 0 body)) (Parts.named items) h)) (Parts.unit_uses_from (at + Parts.body_size body) items) (unit_among items (at + Parts.body_size body)))
 
-or_later : (a b : Bool) → b ≡ true → (a || b) ≡ true
-or_later true b e = refl
-or_later false b e = e
-
-all_used : (calls : List Parts.Use) → All (λ call. Parts.is_used calls call.callee ≡ true) calls
+pub all_used : (calls : List Parts.Use) → All (λ call. Parts.is_used calls call.callee ≡ true) calls
 all_used [] = λ k d h. absurd (omega (arith, h))
 all_used (call ∷ calls) =
     All-cons (λ (c : Parts.Use). Parts.is_used (call ∷ calls) c.callee ≡ true) call calls (ap (λ (b : Bool). b || Parts.is_used calls call.callee) ((bytes_eq-Decides call.callee call.callee).1 refl))
@@ -277,7 +274,7 @@ module _ (items : List Item) (each : All IsItem items) where
       (All-to (λ name. Parts.is_shared items name ≡ true) (λ name. (Parts.symbol_of items name).local ≡ false) (λ name e. local_is name (Parts.definition_from 0 items name) ∙ not_first (static name) _ e) _ (filter_passes (Parts.is_shared items) (Parts.first_sights items)))
 
   -- a used name has a symbol
-  in_table : (name : List ℕ) (b : Bool) → Parts.is_static (Parts.definition_from 0 items name) ≡ b → In name (Parts.first_sights items) → Parts.is_used (Parts.unit_uses_from 0 items) name ≡ true → In name (Parts.symbol_names items)
+  pub in_table : (name : List ℕ) (b : Bool) → Parts.is_static (Parts.definition_from 0 items name) ≡ b → In name (Parts.first_sights items) → Parts.is_used (Parts.unit_uses_from 0 items) name ≡ true → In name (Parts.symbol_names items)
   in_table name true e h used = in-left name _ _ (in-filter (λ name. Parts.is_static (Parts.definition_from 0 items name)) name (Parts.first_sights items) h e)
   in_table name false e h used =
       in-right name (filter (λ name. Parts.is_static (Parts.definition_from 0 items name)) (Parts.first_sights items)) _

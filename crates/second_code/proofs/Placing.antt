@@ -38,7 +38,7 @@ apart call from size k h (inr a) c = let l = c.0 in let m = c.1 in absurd (omega
 abbrev pub On : List ℕ → ℕ → List ℕ → Type 0
 On code at xs = take (length xs) (drop at code) ≡ xs
 
-on-join : (code xs ys : List ℕ) (at : ℕ) → On code at xs → On code (at + length xs) ys → On code at (xs ++ ys)
+pub on-join : (code xs ys : List ℕ) (at : ℕ) → On code at xs → On code (at + length xs) ys → On code at (xs ++ ys)
 on-join code xs ys at s t =
     ap (λ (n : ℕ). take n (drop at code)) (length-append xs ys) ∙ take-add (length xs) (length ys) (drop at code)
     ∙ ap (λ (zs : List ℕ). zs ++ take (length ys) (drop (length xs) (drop at code))) s
@@ -129,7 +129,7 @@ module _ (code : List ℕ) (origin : ℕ) (target : List ℕ → ℕ) (places : 
 module _ (code : List ℕ) (origin : ℕ) (target : List ℕ → ℕ) (text : List ℕ) (calls : List Use) (inside : origin + length text ≤ length code) (words : All (IsRelocated code origin target) calls)
     (others : (k : ℕ) → k < length text → All (λ call. ¬ Covers k call) calls → get_or code (origin + k) 0 ≡ get_or text k 0) where
   -- bytes of the text that no call changes
-  piece : (pre xs post : List ℕ) (from : ℕ) → from ≡ length pre → text ≡ pre ++ (xs ++ post) → All (IsClear from (length xs)) calls → On code (origin + from) xs
+  pub piece : (pre xs post : List ℕ) (from : ℕ) → from ≡ length pre → text ≡ pre ++ (xs ++ post) → All (IsClear from (length xs)) calls → On code (origin + from) xs
   piece pre xs post from f e clear =
       let size = ap length e ∙ length-append pre (xs ++ post) in let more = length-append xs post in
       let long : length (take (length xs) (drop (origin + from) code)) ≡ length xs = omega (arith, length-take (length xs) (drop (origin + from) code), length-drop (origin + from) code, inside, size, more, f) in
@@ -155,7 +155,7 @@ module _ (code : List ℕ) (origin : ℕ) (target : List ℕ → ℕ) (text : Li
 
   module _ (places : Places) (small : (name : List ℕ) → target name < 2 ^ 32) (puts : target (codes "putbyte") ≡ places.putbyte) (short : length code < 16777216) where
     -- a call as it stands in the code
-    called : (before after : List Use) (call : Use) (from e : ℕ) (pre post : List ℕ) → call.place ≡ from + 1 → e ≡ 134516736 + (origin + from) → from ≡ length pre → text ≡ pre ++ (0xe8 ∷ post) → 4 ≤ length post
+    pub called : (before after : List Use) (call : Use) (from e : ℕ) (pre post : List ℕ) → call.place ≡ from + 1 → e ≡ 134516736 + (origin + from) → from ≡ length pre → text ≡ pre ++ (0xe8 ∷ post) → 4 ≤ length post
         → calls ≡ before ++ call ∷ after → All (EndsBy from) before → All (BeginsFrom (from + 5)) after → On code (origin + from) (call_code (target call.callee) (e + 5))
     called before after call from e pre post p at f t long c b a =
         let n = ap length t ∙ length-append pre (0xe8 ∷ post) in

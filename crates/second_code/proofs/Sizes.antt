@@ -137,7 +137,7 @@ names_total [] = refl
 names_total (symbol ∷ symbols) =
     let h = names_total symbols in let n = length-append (symbol.name ++ 0 ∷ []) (flat_map (λ symbol. symbol.name ++ 0 ∷ []) symbols) in let m = length-append symbol.name (0 ∷ []) in omega (arith, h, n, m)
 
-symbol_name : (name : List ℕ) (o : Option Definition) → (Parts.symbol_from name o).name ≡ name
+pub symbol_name : (name : List ℕ) (o : Option Definition) → (Parts.symbol_from name o).name ≡ name
 symbol_name name None = refl
 symbol_name name (Some definition) = refl
 

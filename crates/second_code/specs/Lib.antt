@@ -4,3 +4,6 @@ pub mod PartSteps
 pub mod Placed
 pub mod LinkedUnits
 pub mod Objects
+pub mod LinkedObjects
+pub mod TwoUnits
+pub mod FoundFaults

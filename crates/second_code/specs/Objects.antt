@@ -3,14 +3,15 @@ use Rattle.std.specs.Prelude.{ℕ, ◌^◌, ◌<◌, List, length}
 use Rattle.clight_syntax.specs.declared.second_items.Item.{Item}
 use Rattle.clight_syntax.specs.SecondForm.{IsSecondForm}
 use Rattle.elf_file.specs.Layout.{file_length}
-use Rattle.elf_file.specs.Written.{Written, sizes_of}
+use Rattle.elf_file.specs.Read.{IsFileOf}
+use Rattle.elf_file.specs.Written.{sizes_of}
 use Rattle.second_code.specs.Parts.{text_of, symbol_names, parts_of}
 
--- the text is of the second form, and the file is the one that is written for the parts of its items
+-- The text is of the second form, and the file is the one that is written for the parts of its items. So it is read back as their object
 pub record IsObjectOf (text file : List ℕ) : Type 0 where
   pub items : List Item
   pub form : IsSecondForm text items
-  pub written : Written (parts_of items) file
+  pub written : IsFileOf (parts_of items) file
 
 -- numbers of 32 bits reach over the text and the file, and those of a relocation over the symbols
 pub record IsSmall (items : List Item) : Type 0 where

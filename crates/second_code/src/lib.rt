@@ -1,9 +1,9 @@
 //! The objects of units of the second form, and that an image in which they are linked does what the units mean.
 //!
 //! `unit_object` compiles a text alone: it gives the file of its object. `specs/Parts.antt` says what that object holds,
-//! `specs/Placed.antt` and `specs/LinkedUnits.antt` what an image holds where such units are linked with the runtime. The
-//! theorem is `linked_refines` in `proofs/Linking.antt`: then the machine of that image refines what the linked units
-//! mean.
+//! `specs/LinkedObjects.antt` which objects an image is linked from. The theorem is the contract of
+//! `linked_units_refine`: what such an image does on any input refines what the linked units mean. On the way
+//! `specs/Placed.antt` and `specs/LinkedUnits.antt` say what the image holds.
 #![tactic(auto)]
 
 mod calls;
@@ -11,9 +11,14 @@ mod definitions;
 mod names;
 mod objects;
 mod parts;
+mod refining;
 mod relocs;
 mod symbols;
 mod text;
 
 pub use objects::unit_object;
 pub use parts::object_parts;
+pub use refining::{
+    link_faults_are_source_faults, linked_units_are_linkable, linked_units_refine,
+    two_units_are_linked,
+};

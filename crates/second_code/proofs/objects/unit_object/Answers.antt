@@ -4,6 +4,7 @@ use Rattle.elf_file.specs.WellFormed.{WellFormed}
 use Rattle.elf_file.specs.Written.{Written}
 use Rattle.second_code.proofs.PartsFit.{parts_fit}
 use Rattle.second_code.proofs.Sizes.{form_of, object_small}
+use Rattle.second_code.proofs.UnitFile.{unit_file}
 use Rattle.second_code.proofs.objects.unit_object.Goals as goal
 
 pub object_parts-requires : goal.object_parts-requires
@@ -19,8 +20,9 @@ write_object-requires c =
 pub returns-clause-some : goal.returns-clause-some
 returns-clause-some c =
     let P : ObjectParts → Type 0 = λ parts. Written parts c.in_ok-file.file.items in
+    let form = form_of c.args.text.now c.in_ok-items.field-0 c.in-Some.items c.in_ok-items.ensures.some c.in-Some.is in
     record {
       items = c.in-Some.items;
-      form = form_of c.args.text.now c.in_ok-items.field-0 c.in-Some.items c.in_ok-items.ensures.some c.in-Some.is;
-      written = subst P c.in_ok-parts.ensures c.in_ok-file.ensures;
+      form = form;
+      written = unit_file c.args.text.now c.in_ok-file.file.items c.in-Some.items form (subst P c.in_ok-parts.ensures c.in_ok-file.ensures);
     }
