@@ -9,7 +9,7 @@ trap 'rm -rf "$folder"' EXIT
 program=$folder/crates/link_bench
 
 mkdir -p "$program/src" "$program/proofs/linked"
-for crate in cc_base pass_core clight_syntax i386_machine machine_steps elf_file second_code elf_linker; do
+for crate in cc_base pass_core clight_syntax i386_machine machine_steps elf_file elf_linker image_loader second_code; do
     (cd "$top" && tar cf - --exclude=out "crates/$crate") | (cd "$folder" && tar xf -)
     grep "^$crate:" "$top/crates.txt" >> "$folder/crates.txt"
 done
