@@ -2,3 +2,4 @@ pub mod Doing
 pub mod Answers
 pub mod Steps
 pub mod Does
+pub mod LinkingSteps

@@ -43,9 +43,9 @@ pub(crate) fn compile_to<F: Files>(
     Ok(bytes)
 }
 
-/// Gets each of these units, compiles it alone, and puts its object under its name. After the first refusal nothing
-/// more is done.
-pub fn compile_all<F: Files>(
+// Gets each of these units, compiles it alone, and puts its object under its name. After the first refusal nothing more
+// is done.
+pub(crate) fn compile_all<F: Files>(
     alloc: Global,
     files: &mut F,
     units: &[String],

@@ -10,8 +10,8 @@ use crate::answer::Answer;
 use cc_base::{Bytes, Files, GetFault, Name, PutFault, Sequence};
 use std::alloc::Global;
 
-/// The bytes of files, in their order.
-pub type Contents = Sequence<Bytes>;
+// The bytes of files, in their order.
+pub(crate) type Contents = Sequence<Bytes>;
 
 // Gets a file. Its name is copied first: after the call there may be no memory for it.
 pub(crate) fn fetch<F: Files>(alloc: Global, files: &mut F, name: &str) -> Result<Bytes, Answer>
@@ -56,8 +56,8 @@ pub(crate) fn keep(contents: &mut Contents, bytes: Bytes) -> Result<(), Answer>
     }
 }
 
-/// Gets all these files, in their order. After the first that is not got nothing more is done.
-pub fn fetch_all<F: Files>(
+// Gets all these files, in their order. After the first that is not got nothing more is done.
+pub(crate) fn fetch_all<F: Files>(
     alloc: Global,
     files: &mut F,
     names: &[String],
