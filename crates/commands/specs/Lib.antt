@@ -3,3 +3,4 @@ pub mod Answers
 pub mod Steps
 pub mod Does
 pub mod LinkingSteps
+pub mod Lines

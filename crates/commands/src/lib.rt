@@ -1,6 +1,6 @@
 //! The commands compile, link, run and exec, up to their ends: what each does over files, an input and an output, and
 //! the answer that it comes to. `specs/Does.antt` has each as the chain of its steps, `specs/Steps.antt` what a step may
-//! answer and when, and `specs/Answers.antt` the status of each answer.
+//! answer and when, and `specs/Answers.antt` and `specs/Lines.antt` the status and the line of each answer.
 #![tactic(auto)]
 
 mod answer;
@@ -11,6 +11,8 @@ mod performing;
 mod running;
 #[cfg(test)]
 mod tests;
+mod words;
 
 pub use answer::{Answer, Status};
 pub use performing::{compile, exec, link, perform, run};
+pub use words::line;

@@ -1,5 +1,5 @@
 // Commands over files in memory: that the calls succeed, and what they answer.
-use crate::{Answer, Status, perform};
+use crate::{Answer, Status, line, perform};
 use cc_base::{Bytes, Calls, Files, MemFiles, MemSink, MemSource};
 use command_words::read;
 use std::alloc::{AllocError, Global};
@@ -26,20 +26,6 @@ fn names(alloc: Global, line: &str) -> Result<Vec<String>, AllocError> {
     Ok(names)
 }
 
-// The number and the names that an answer tells.
-fn told(answer: &Answer) -> (u64, &[u8], &[u8]) {
-    match answer {
-        Answer::ObjectStored(length) => (*length, b"", b""),
-        Answer::ImageStored(length) => (*length, b"", b""),
-        Answer::Ended(code) => (u64::from(*code), b"", b""),
-        Answer::Doubled { name, file } => (0, name.as_slice(), file.as_slice()),
-        Answer::Unresolved { name, file } => (0, name.as_slice(), file.as_slice()),
-        Answer::Missing(file) => (0, b"", file.as_slice()),
-        Answer::ObjectForm(file) => (0, b"", file.as_slice()),
-        _ => (0, b"", b""),
-    }
-}
-
 // What a line of words comes to.
 fn answer_of(
     alloc: Global,
@@ -60,24 +46,32 @@ fn units_are_compiled_and_linked_later(rt: HostRuntime) -> Result<(), Fail> {
     let alloc = rt.alloc();
     let mut files = units(alloc)?;
     let mut output = MemSink::new(alloc, Calls::new(alloc));
-    let rows: [(&str, Status, u64, &[u8], &[u8]); 12] = [
-        ("compile a.c a.o", Status::Done, 708, b"", b""),
-        ("compile b.c b.o", Status::Done, 676, b"", b""),
-        ("compile c.c c.o", Status::Done, 676, b"", b""),
-        ("link out a.o b.o", Status::Done, 4254, b"", b""),
-        ("run 33 out", Status::Done, 3, b"", b""),
-        ("run 32 out", Status::Spent, 0, b"", b""),
-        ("link more a.o", Status::Unresolved, 0, b"f", b"a.o"),
-        ("link more b.o", Status::Unresolved, 0, b"main", b"runtime"),
-        ("link more a.o b.o c.o", Status::Doubled, 0, b"f", b"c.o"),
-        ("link more a.o b.c", Status::Object, 0, b"", b"b.c"),
-        ("run 33 a.o", Status::Image, 0, b"", b""),
-        ("run 33 more", Status::Missing, 0, b"", b"more"),
+    let rows: [(&str, Status, &str); 12] = [
+        ("compile a.c a.o", Status::Done, "object 708\n"),
+        ("compile b.c b.o", Status::Done, "object 676\n"),
+        ("compile c.c c.o", Status::Done, "object 676\n"),
+        ("link out a.o b.o", Status::Done, "image 4254\n"),
+        ("run 33 out", Status::Done, "exit 3\n"),
+        ("run 32 out", Status::Spent, "spent\n"),
+        ("link more a.o", Status::Unresolved, "unresolved f a.o\n"),
+        (
+            "link more b.o",
+            Status::Unresolved,
+            "unresolved main runtime\n",
+        ),
+        ("link more a.o b.o c.o", Status::Doubled, "doubled f c.o\n"),
+        ("link more a.o b.c", Status::Object, "b.c: object form\n"),
+        ("run 33 a.o", Status::Image, "a.o: image form\n"),
+        ("run 33 more", Status::Missing, "missing more\n"),
     ];
-    for (line, status, number, name, file) in rows {
-        let answer = answer_of(alloc, line, &mut files, &mut output)?;
-        assert_eq!(rt; answer.status(), status, "{line}");
-        assert!(rt; told(&answer) == (number, name, file), "{line}");
+    for (words, status, report) in rows {
+        let answer = answer_of(alloc, words, &mut files, &mut output)?;
+        assert_eq!(rt; answer.status(), status, "{words}");
+        assert_eq!(rt;
+            line(alloc, &answer)?.as_slice(),
+            report.as_bytes(),
+            "{words}"
+        );
     }
     assert_eq!(rt; output.bytes(), b"ABAB".as_slice());
     Ok(())
@@ -86,20 +80,24 @@ fn units_are_compiled_and_linked_later(rt: HostRuntime) -> Result<(), Fail> {
 #[test]
 fn units_run(rt: HostRuntime) -> Result<(), Fail> {
     let alloc = rt.alloc();
-    let rows: [(&str, Status, u64, &[u8]); 5] = [
-        ("exec 33 out a.c b.c", Status::Done, 3, b"AB"),
-        ("exec 32 out a.c b.c", Status::Spent, 0, b"AB"),
-        ("exec 33 out b.c a.c", Status::Done, 3, b"AB"),
-        ("exec 33 out a.c d.c", Status::Missing, 0, b""),
-        ("exec 33 out", Status::Words, 0, b""),
+    let rows: [(&str, Status, &str, &[u8]); 5] = [
+        ("exec 33 out a.c b.c", Status::Done, "exit 3\n", b"AB"),
+        ("exec 32 out a.c b.c", Status::Spent, "spent\n", b"AB"),
+        ("exec 33 out b.c a.c", Status::Done, "exit 3\n", b"AB"),
+        ("exec 33 out a.c d.c", Status::Missing, "missing d.c\n", b""),
+        ("exec 33 out", Status::Words, "words\n", b""),
     ];
-    for (line, status, number, bytes) in rows {
+    for (words, status, report, bytes) in rows {
         let mut files = units(alloc)?;
         let mut output = MemSink::new(alloc, Calls::new(alloc));
-        let answer = answer_of(alloc, line, &mut files, &mut output)?;
-        assert_eq!(rt; answer.status(), status, "{line}");
-        assert_eq!(rt; told(&answer).0, number, "{line}");
-        assert_eq!(rt; output.bytes(), bytes, "{line}");
+        let answer = answer_of(alloc, words, &mut files, &mut output)?;
+        assert_eq!(rt; answer.status(), status, "{words}");
+        assert_eq!(rt;
+            line(alloc, &answer)?.as_slice(),
+            report.as_bytes(),
+            "{words}"
+        );
+        assert_eq!(rt; output.bytes(), bytes, "{words}");
     }
     Ok(())
 }

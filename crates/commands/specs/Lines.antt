@@ -1,0 +1,57 @@
+-- The line that an answer is reported by.
+use Rattle.std.specs.Prelude.{ℕ, List, [], ◌∷◌, ◌++◌, codes, decimal, map, nat_le, ◌&&◌, if◌then◌else◌}
+use Rattle.cc_base.specs.NumberText.{hex_of}
+use Rattle.i386_machine.specs.declared.event.Cause.{Cause}
+use Rattle.i386_machine.specs.declared.event.Cause.TheVariants as cause
+use Rattle.commands.specs.declared.answer.Answer.{Answer}
+use Rattle.commands.specs.declared.answer.Answer.TheVariants.{Words, Memory, Missing, ReadFault, WriteFault, LimitFile, LimitForm, ObjectForm, Doubled, Unresolved, Sized, Range, ImageForm, ImageSegment, ImageEntry, ObjectStored, ImageStored, Ended, Spent, Stuck}
+
+-- a byte of a symbol's name; one that is no visible character of ASCII shows as a question mark
+abbrev pub shown_byte : ℕ → ℕ
+shown_byte byte = if nat_le 0x21 byte && nat_le byte 0x7e then byte else 63
+
+abbrev pub shown : List ℕ → List ℕ
+shown name = map shown_byte name
+
+-- an address: eight hexadecimal digits or more
+abbrev pub address : ℕ → List ℕ
+address n = hex_of n 8
+
+-- why there is no step
+abbrev pub cause_words : Cause → List ℕ
+cause_words cause.Fetch = codes "fetch"
+cause_words cause.Decode = codes "decode"
+cause_words (cause.Access at) = codes "access " ++ address at
+cause_words cause.System = codes "system"
+
+-- the words of an answer, or nothing where there is no line
+abbrev pub words_of : Answer → List ℕ
+words_of Words = codes "words"
+words_of Memory = []
+words_of (Missing name) = codes "missing " ++ name
+words_of ReadFault = codes "read"
+words_of WriteFault = []
+words_of (LimitFile name) = name ++ codes ": limit file"
+words_of (LimitForm name) = name ++ codes ": limit form"
+words_of (ObjectForm name) = name ++ codes ": object form"
+words_of (Doubled name file) = codes "doubled " ++ shown name ++ codes " " ++ file
+words_of (Unresolved name file) = codes "unresolved " ++ shown name ++ codes " " ++ file
+words_of (Sized name file stated defined) = codes "sized " ++ shown name ++ codes " " ++ file ++ codes " " ++ decimal stated ++ codes " " ++ decimal defined
+words_of (Range end) = codes "range " ++ address end
+words_of (ImageForm name) = name ++ codes ": image form"
+words_of (ImageSegment file index) = file ++ codes ": image segment " ++ decimal index
+words_of (ImageEntry name) = name ++ codes ": image entry"
+words_of (ObjectStored length) = codes "object " ++ decimal length
+words_of (ImageStored length) = codes "image " ++ decimal length
+words_of (Ended code) = codes "exit " ++ decimal code
+words_of Spent = codes "spent"
+words_of (Stuck eip cause) = codes "stuck " ++ address eip ++ codes " " ++ cause_words cause
+
+-- words end with a newline
+abbrev pub ended : List ℕ → List ℕ
+ended [] = []
+ended (byte ∷ bytes) = (byte ∷ bytes) ++ 10 ∷ []
+
+-- the line, or nothing where there is none
+abbrev pub line_of : Answer → List ℕ
+line_of answer = ended (words_of answer)
