@@ -17,5 +17,5 @@ mod second_run_tests;
 mod second_tokens;
 
 pub use form::{FirstForm, first_form};
-pub use second::second_form;
+pub use second::{second_form, text_has_one_form};
 pub use second_items::{Item, SecondForm, SmallStmt, SmallStmts};

@@ -1,5 +1,5 @@
 // The second form of a unit's text.
-ghost use Rattle.std.specs.Prelude.{◌≡◌, List, IfOk, IfSome, Some};
+ghost use Rattle.std.specs.Prelude.{◌≡◌, ℕ, List, IfOk, IfSome, Some};
 ghost use Rattle.clight_syntax.specs.declared.second_items.Item.{Item};
 ghost use Rattle.clight_syntax.specs.SecondForm.{IsSecondForm};
 
@@ -34,6 +34,11 @@ pub fn second_form(alloc: Global, text: &[u8]) -> Result<Option<SecondForm>, All
         Ok(None)
     }
 }
+
+/// A text of the second form has one list of items.
+pub fn text_has_one_form()
+    ensures { (text : List ℕ) (one other : List Item) → IsSecondForm text one → IsSecondForm text other → one ≡ other }
+{}
 
 #[cfg(test)]
 mod tests {

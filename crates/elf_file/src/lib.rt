@@ -28,7 +28,7 @@ pub use parts::{
     KeptKind, ObjectParts, RelocKind, RelocPart, RelocParts, SymbolKind, SymbolPart, SymbolParts,
     SymbolPlace,
 };
-pub use view::{ObjectView, read_object};
+pub use view::{ObjectView, object_has_one_meaning, read_object};
 pub use write::{has_one_file, write_object};
 
 #[cfg(test)]

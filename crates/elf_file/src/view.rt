@@ -1,5 +1,5 @@
 // An object in its file.
-ghost use Rattle.std.specs.Prelude.{◌≡◌, ◌^◌, ◌<◌, length, IfOk, IsErrOf, MatchResult};
+ghost use Rattle.std.specs.Prelude.{◌≡◌, ℕ, List, ◌^◌, ◌<◌, length, IfOk, IsErrOf, MatchResult};
 ghost use Rattle.elf_file.specs.Object.{Object, section_of, symbol_of, reloc_of, HasBytes, object_of};
 ghost use Rattle.elf_file.specs.Read.{IsFileOf, IsObject};
 ghost use Rattle.elf_file.specs.ObjectBytes.{ObjectBytes};
@@ -230,3 +230,8 @@ pub fn read_object(alloc: Global, file: &[u8]) -> Result<ObjectView<'_>, ElfFaul
     }
     Ok(ObjectView { file, sizes, at })
 }
+
+/// A file is the object of one parts only.
+pub fn object_has_one_meaning()
+    ensures { (one other : ObjectParts) (file : List ℕ) → IsFileOf one file → IsFileOf other file → one ≡ other }
+{}

@@ -18,6 +18,7 @@ pub mod OpenCalls
 pub mod PlacedUnits
 pub mod LinkedRuntime
 pub mod WholeLinking
+pub mod WholeLoading
 pub mod UnitFile
 pub mod TwoUnitsLinked
 pub mod ShownDefinitions

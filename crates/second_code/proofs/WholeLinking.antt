@@ -163,7 +163,7 @@ module _ (units : List (List Item)) (image : ImageParts) (linked : Linked (linke
       }
 
   -- the machine that the image gives
-  entry_is : image.entry ≡ start
+  pub entry_is : image.entry ≡ start
   entry_is =
       one_address objects fine (codes "_start") image.entry (start + 0) linked.entry (start_defined units image linked fine)
       ∙ (let none : start + 0 ≡ start = omega arith in none)

@@ -19,6 +19,6 @@ mod text;
 pub use objects::unit_object;
 pub use parts::object_parts;
 pub use refining::{
-    link_faults_are_source_faults, linked_units_are_linkable, linked_units_refine,
-    two_units_are_linked,
+    link_faults_are_source_faults, linked_units_are_linkable, linked_units_load,
+    linked_units_refine, two_units_are_linked,
 };

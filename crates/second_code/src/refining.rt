@@ -7,7 +7,7 @@ ghost use Rattle.clight_syntax.specs.SecondRun.{second_after};
 ghost use Rattle.elf_file.specs.declared.image.ImageParts.{ImageParts};
 ghost use Rattle.elf_linker.specs.Linked.{Linked};
 ghost use Rattle.elf_linker.specs.Names.{link_fault};
-ghost use Rattle.image_loader.specs.Load.{image_after};
+ghost use Rattle.image_loader.specs.Load.{image_after, load_fault};
 ghost use Rattle.pass_core.specs.Refines.{Refines};
 ghost use Rattle.second_code.specs.FoundFaults.{IsFoundAs};
 ghost use Rattle.second_code.specs.LinkedObjects.{IsUnit, linked_objects};
@@ -17,6 +17,11 @@ ghost use Rattle.second_code.specs.TwoUnits.{two_units, two_units_image};
 /// input what the linked units mean. Each object is made from its unit alone.
 pub fn linked_units_refine()
     ensures { (units : List (List Item)) (image : ImageParts) → All IsUnit units → Linked (linked_objects units) image → link_fault (linked_objects units) ≡ None → (input : List ℕ) → Refines (second_after units) (image_after image input) }
+{}
+
+/// Such an image can be loaded: its segment lies in the addresses of images, and it has the entry.
+pub fn linked_units_load()
+    ensures { (units : List (List Item)) (image : ImageParts) → All IsUnit units → Linked (linked_objects units) image → link_fault (linked_objects units) ≡ None → load_fault image ≡ None }
 {}
 
 /// Where nothing is wrong with the names of these objects, the units are a program, which never goes wrong.
