@@ -1,1 +1,2 @@
-int main(void) { putbyte(72); return 7; }
+int f(void);
+int main(void) { f(); putbyte(66); return 3; }

@@ -1,26 +1,36 @@
 -- Which counts the steps of a command raise.
-use Rattle.std.proofs.Common.{◌≡◌, ℕ, List, Ok, Err, inl, inr, subst, ap, ◌∙◌}
+use Rattle.std.proofs.Common.{◌≡◌, ℕ, List, [], ◌∷◌, map, Result, Ok, Err, inl, inr, subst, ap, ◌∙◌, sym}
 use Rattle.cc_base.specs.Seen.{FilesSeen, SourceSeen, SinkSeen}
-use Rattle.ccelf_build.specs.declared.answer.Answer.{Answer}
-use Rattle.ccelf_build.specs.declared.answer.Answer.TheVariants as answer
-use Rattle.ccelf_build.specs.Doing.{Outside, Step, Command, Then}
-use Rattle.ccelf_build.specs.Steps.{Fetches, Stores, Compiles, Links, Ran, Runs}
-use Rattle.ccelf_build.specs.Commands.{exec_does, object_name}
+use Rattle.elf_file.specs.declared.image.ImageParts.{ImageParts}
+use Rattle.command_words.specs.Commands.{Request, Compile, Link, Run, Exec, object_name}
+use Rattle.commands.specs.declared.answer.Answer.{Answer}
+use Rattle.commands.specs.declared.answer.Answer.TheVariants as answer
+use Rattle.commands.specs.Doing.{Outside, Step, Command, Then, AndThen, Each}
+use Rattle.commands.specs.Steps.{Fetches, Stores, Compiles, Keeps, CompilesTo, Links, Ran, Runs, RunsBy}
+use Rattle.commands.specs.Does.{does}
 use Rattle.ccelf_build.specs.Tells.{counts, Raises, Tells}
+use Rattle.ccelf_build.proofs.Chains.{keep_it, store_it, compile_it, rest_failed}
+use Rattle.ccelf_build.proofs.Runnings.{runs_by}
 
 -- a step that went well raises no count
-abbrev Keeps : {A : Type 0} → Step A → Type 0
-Keeps {A} step = (old new : Outside) (a : A) → step old (Ok a) new → counts new ≡ counts old
+abbrev Quiet : {A : Type 0} → Step A → Type 0
+Quiet {A} step = (old new : Outside) (a : A) → step old (Ok a) new → counts new ≡ counts old
 
--- its answers raise no count but their own, and none is that the words fit nothing
+-- an answer raises no count but its own, and it is not that the words fit nothing
+abbrev pub IsHonest : Outside → Answer → Outside → Type 0
+IsHonest old e new = Tells old e new × (e ≡ answer.Words → ⊥)
+
 abbrev Honest : {A : Type 0} → Step A → Type 0
-Honest step = (old new : Outside) (e : Answer) → step old (Err e) new → Tells old e new × (e ≡ answer.Words → ⊥)
+Honest step = (old new : Outside) (e : Answer) → step old (Err e) new → IsHonest old e new
+
+abbrev HonestCommand : Command → Type 0
+HonestCommand command = (old new : Outside) (e : Answer) → command old e new → IsHonest old e new
 
 files_alone : (old new : Outside) (f : FilesSeen) → new ≡ record old { files = new.files } → new.files ≡ f → counts new ≡ counts (record old { files = f })
 files_alone old new f e h = ap counts e ∙ ap (λ g. counts (record old { files = g })) h
 
-fetch_keeps : (name : List ℕ) → Keeps (Fetches name)
-fetch_keeps name old new a h = files_alone old new old.files h.1 h.0.same
+fetch_quiet : (name : List ℕ) → Quiet (Fetches name)
+fetch_quiet name old new a h = files_alone old new old.files h.1 h.0.same
 
 fetch_honest : (name : List ℕ) → Honest (Fetches name)
 fetch_honest name old new (answer.Missing which) h = ((h.0.0.rose, files_alone old new _ h.1 h.0.0.others), λ e. cc)
@@ -29,68 +39,133 @@ fetch_honest name old new answer.ReadFault h = (inl (h.0.rose, files_alone old n
 fetch_honest name old new answer.Memory h = (inl (files_alone old new _ h.1 h.0), λ e. cc)
 fetch_honest name old new _ h = absurd h.0
 
-store_keeps : (name bytes : List ℕ) → Keeps (Stores name bytes)
-store_keeps name bytes old new a h = files_alone old new _ h.1 h.0
+store_quiet : (name bytes : List ℕ) → Quiet (Stores name bytes)
+store_quiet name bytes old new a h = files_alone old new _ h.1 h.0
 
 store_honest : (name bytes : List ℕ) → Honest (Stores name bytes)
 store_honest name bytes old new answer.WriteFault h = (inl (h.0.rose, files_alone old new _ h.1 h.0.others), λ e. cc)
 store_honest name bytes old new answer.Memory h = (inl (files_alone old new _ h.1 h.0), λ e. cc)
 store_honest name bytes old new _ h = absurd h.0
 
-compile_keeps : (name text : List ℕ) → Keeps (Compiles name text)
-compile_keeps name text old new a h = ap counts h.1
+compile_quiet : (name text : List ℕ) → Quiet (Compiles name text)
+compile_quiet name text old new a h = ap counts h.1
 
 compile_honest : (name text : List ℕ) → Honest (Compiles name text)
 compile_honest name text old new (answer.LimitForm which) h = (ap counts h.1, λ e. cc)
 compile_honest name text old new answer.Memory h = (inl (ap counts h.1), λ e. cc)
 compile_honest name text old new _ h = absurd h.0
 
+keep_quiet : (bytes : List ℕ) → Quiet (Keeps bytes)
+keep_quiet bytes old new a h = ap counts h.1
+
+want_honest : (old new : Outside) (e : Answer) → new ≡ old → e ≡ answer.Memory → IsHonest old e new
+want_honest old new e same is = let P : Answer → Type 0 = λ a. IsHonest old a new in subst P (sym is) (inl (ap counts same), λ x. cc)
+
+keep_honest : (bytes : List ℕ) → Honest (Keeps bytes)
+keep_honest bytes old new e (inl h, same) = let clash : ◌≡◌ {A = Result (List ℕ) Answer} (Err e) (Ok bytes) = h in cc
+keep_honest bytes old new e (inr h, same) = want_honest old new e same (let is : ◌≡◌ {A = Result (List ℕ) Answer} (Err e) (Err answer.Memory) = h in cc)
+
+link_quiet : (names files : List (List ℕ)) → Quiet (Links names files)
+link_quiet names files old new a h = ap counts h.1
+
+link_honest : (names files : List (List ℕ)) → Honest (Links names files)
+link_honest names files old new (answer.ObjectForm which) h = (ap counts h.1, λ e. cc)
+link_honest names files old new (answer.Doubled name file) h = (ap counts h.1, λ e. cc)
+link_honest names files old new (answer.Unresolved name file) h = (ap counts h.1, λ e. cc)
+link_honest names files old new (answer.Sized name file stated defined) h = (ap counts h.1, λ e. cc)
+link_honest names files old new (answer.Range end) h = (ap counts h.1, λ e. cc)
+link_honest names files old new answer.Memory h = (inl (ap counts h.1), λ e. cc)
+link_honest names files old new _ h = absurd h.0.2
+
 -- a step, and a command that raises no count but its answer's
-then_honest : {A : Type 0} (step : Step A) (rest : A → Command) → Keeps step → Honest step
-    → ((a : A) (old new : Outside) (e : Answer) → rest a old e new → Tells old e new × (e ≡ answer.Words → ⊥))
-    → (old new : Outside) (e : Answer) → Then step rest old e new → Tells old e new × (e ≡ answer.Words → ⊥)
-then_honest step rest keeps honest next old new e (inl h) = honest old new e h
-then_honest step rest keeps honest next old new e (inr h) =
-    let r = next h.value h.between new e h.goes_on in (subst (λ c. Raises c e (counts new)) (keeps old h.between h.value h.went) r.0, r.1)
+after_quiet : (old mid new : Outside) (e : Answer) → counts mid ≡ counts old → IsHonest mid e new → IsHonest old e new
+after_quiet old mid new e same h = (subst (λ c. Raises c e (counts new)) same h.0, h.1)
 
-link_keeps : (object : List ℕ) → Keeps (Links object)
-link_keeps object old new a h = ap counts h.1
+then_honest : {A : Type 0} (step : Step A) (rest : A → Command) → Quiet step → Honest step → ((a : A) → HonestCommand (rest a)) → HonestCommand (Then step rest)
+then_honest step rest quiet honest next old new e (inl h) = honest old new e h
+then_honest step rest quiet honest next old new e (inr h) = after_quiet old h.between new e (quiet old h.between h.value h.went) (next h.value h.between new e h.goes_on)
 
-link_honest : (object : List ℕ) → Honest (Links object)
-link_honest object old new answer.Memory h = (inl (ap counts h.1), λ e. cc)
-link_honest object old new _ h = absurd h.0
+and_then_honest : {A B : Type 0} (step : Step A) (rest : A → Step B) → Quiet step → Honest step → ((a : A) → Honest (rest a)) → Honest (AndThen step rest)
+and_then_honest step rest quiet honest next old new e (inl h) = honest old new e h
+and_then_honest step rest quiet honest next old new e (inr h) = after_quiet old h.between new e (quiet old h.between h.value h.went) (next h.value h.between new e h.goes_on)
+
+and_then_quiet : {A B : Type 0} (step : Step A) (rest : A → Step B) → Quiet step → ((a : A) → Quiet (rest a)) → Quiet (AndThen step rest)
+and_then_quiet step rest quiet next old new b h = next h.value h.between new b h.goes_on ∙ quiet old h.between h.value h.went
+
+each_quiet : {X Y : Type 0} (step : X → Step Y) → ((x : X) → Quiet (step x)) → (xs : List X) → Quiet (Each step xs)
+each_quiet step quiet [] old new ys h = ap counts h.1
+each_quiet step quiet (x ∷ xs) old new ys h =
+    let rest = h.goes_on in
+    ap counts rest.goes_on.1 ∙ each_quiet step quiet xs h.between rest.between rest.value rest.went ∙ quiet x old h.between h.value h.went
+
+each_honest : {X Y : Type 0} (step : X → Step Y) → ((x : X) → Quiet (step x)) → ((x : X) → Honest (step x)) → (xs : List X) → Honest (Each step xs)
+each_honest {X} {Y} step quiet honest [] old new e h = let clash : ◌≡◌ {A = Result (List Y) Answer} (Err e) (Ok []) = h.0 in cc
+each_honest step quiet honest (x ∷ xs) old new e (inl h) = honest x old new e h
+each_honest step quiet honest (x ∷ xs) old new e (inr h) =
+    after_quiet old h.between new e (quiet x old h.between h.value h.went) (each_honest step quiet honest xs h.between new e (rest_failed step xs h.value h.between new e h.goes_on))
+
+unit_quiet : (unit name : List ℕ) → Quiet (CompilesTo unit name)
+unit_quiet unit name =
+    and_then_quiet (Fetches unit) (compile_it unit name) (fetch_quiet unit) (λ text.
+    and_then_quiet (Compiles unit text) (store_it name) (compile_quiet unit text) (λ object.
+    and_then_quiet (Stores name object) (keep_it object) (store_quiet name object) (λ _. keep_quiet object)))
+
+unit_honest : (unit name : List ℕ) → Honest (CompilesTo unit name)
+unit_honest unit name =
+    and_then_honest (Fetches unit) (compile_it unit name) (fetch_quiet unit) (fetch_honest unit) (λ text.
+    and_then_honest (Compiles unit text) (store_it name) (compile_quiet unit text) (compile_honest unit text) (λ object.
+    and_then_honest (Stores name object) (keep_it object) (store_quiet name object) (store_honest name object) (λ _. keep_honest object)))
 
 -- what a run raises, by its answer
-run_raises : (bytes : List ℕ) (n : ℕ) (old new : Outside) → Ran bytes n old new → counts new ≡ counts old
-run_raises bytes n old new r =
+run_raises : (image : ImageParts) (n : ℕ) (old new : Outside) → Ran image n old new → counts new ≡ counts old
+run_raises image n old new r =
     ap (λ (f : FilesSeen). counts (record new { files = f })) r.files ∙ ap (λ (i : SourceSeen). counts (record old { input = i; output = new.output })) r.input
     ∙ ap (λ (o : SinkSeen). counts (record old { output = o })) r.output
 
-runs_honest : (steps : ℕ) (bytes : List ℕ) (old new : Outside) (e : Answer) → Runs steps bytes old e new → Tells old e new × (e ≡ answer.Words → ⊥)
-runs_honest steps bytes old new (answer.Ended status) h = (run_raises bytes steps old new h.0, λ e. cc)
-runs_honest steps bytes old new answer.Spent h = (run_raises bytes steps old new h.0, λ e. cc)
-runs_honest steps bytes old new answer.ReadFault h = (
-  subst (λ c. Raises c answer.ReadFault (counts new)) (run_raises bytes h.count old h.until h.ran)
+run_honest : (image : ImageParts) (steps : ℕ) (old new : Outside) (e : Answer) → RunsBy image steps old e new → IsHonest old e new
+run_honest image steps old new (answer.Ended status) h = (run_raises image steps old new h.0, λ e. cc)
+run_honest image steps old new answer.Spent h = (run_raises image steps old new h.0, λ e. cc)
+run_honest image steps old new (answer.Stuck eip cause) h = (run_raises image steps old new h.0, λ e. cc)
+run_honest image steps old new answer.ReadFault h = (
+  subst (λ c. Raises c answer.ReadFault (counts new)) (run_raises image h.count old h.until h.ran)
       (inr (h.fault.0.rose, ap counts h.fault.1 ∙ ap (λ (i : SourceSeen). counts (record h.until { input = i })) h.fault.0.others)),
   λ e. cc,
 )
-runs_honest steps bytes old new answer.WriteFault h = (
-  subst (λ c. Raises c answer.WriteFault (counts new)) (run_raises bytes h.count old h.until h.ran)
+run_honest image steps old new answer.WriteFault h = (
+  subst (λ c. Raises c answer.WriteFault (counts new)) (run_raises image h.count old h.until h.ran)
       (inr (h.fault.0.rose, ap counts h.fault.1 ∙ ap (λ (o : SinkSeen). counts (record h.until { output = o })) h.fault.0.others)),
   λ e. cc,
 )
-runs_honest steps bytes old new answer.Memory (inl h) = (inl (ap counts h), λ e. cc)
-runs_honest steps bytes old new answer.Memory (inr h) = (
-  subst (λ c. Raises c answer.Memory (counts new)) (run_raises bytes h.count old h.until h.ran)
+run_honest image steps old new answer.Memory h = (
+  subst (λ c. Raises c answer.Memory (counts new)) (run_raises image h.count old h.until h.ran)
       (inr (h.fault.0.rose, ap counts h.fault.1 ∙ ap (λ (o : SinkSeen). counts (record h.until { output = o })) h.fault.0.others)),
   λ e. cc,
 )
-runs_honest steps bytes old new _ h = absurd h
+run_honest image steps old new _ h = absurd h
 
-pub exec_honest : (steps : ℕ) (image unit : List ℕ) (old new : Outside) (e : Answer) → exec_does steps image unit old e new → Tells old e new × (e ≡ answer.Words → ⊥)
-exec_honest steps image unit =
-    then_honest (Fetches unit) _ (fetch_keeps unit) (fetch_honest unit) (λ text.
-    then_honest (Compiles unit text) _ (compile_keeps unit text) (compile_honest unit text) (λ object.
-    then_honest (Stores (object_name unit) object) _ (store_keeps (object_name unit) object) (store_honest (object_name unit) object) (λ _.
-    then_honest (Links object) _ (link_keeps object) (link_honest object) (λ bytes.
-    then_honest (Stores image bytes) _ (store_keeps image bytes) (store_honest image bytes) (λ _. runs_honest steps bytes)))))
+runs_honest : (steps : ℕ) (name bytes : List ℕ) → HonestCommand (Runs steps name bytes)
+runs_honest steps name bytes old new e h =
+    runs_by steps name bytes old (λ told end. IsHonest old told end)
+    (λ none. (ap counts (refl_of old), λ x. cc)) (λ image index is fault. (ap counts (refl_of old), λ x. cc)) (λ image is fault. (ap counts (refl_of old), λ x. cc)) (inl (ap counts (refl_of old)), λ x. cc)
+    (λ image is loads told end r. run_honest image steps old end told r) e new h
+  where
+    refl_of : (x : Outside) → x ≡ x
+    refl_of x i = x
+
+pub does_honest : (r : Request) → HonestCommand (does r)
+does_honest (Compile unit object) = then_honest (CompilesTo unit object) _ (unit_quiet unit object) (unit_honest unit object) (λ bytes old new e h. stored_honest old new e _ h.0 h.1)
+  where
+    stored_honest : (old new : Outside) (e : Answer) (size : ℕ) → e ≡ answer.ObjectStored size → new ≡ old → IsHonest old e new
+    stored_honest old new e size is same = let P : Answer → Type 0 = λ a. IsHonest old a new in subst P (sym is) (ap counts same, λ x. cc)
+does_honest (Link image objects) =
+    then_honest (Each Fetches objects) _ (each_quiet Fetches fetch_quiet objects) (each_honest Fetches fetch_quiet fetch_honest objects) (λ files.
+    then_honest (Links objects files) _ (link_quiet objects files) (link_honest objects files) (λ bytes.
+    then_honest (Stores image bytes) _ (store_quiet image bytes) (store_honest image bytes) (λ _ old new e h. stored_honest old new e _ h.0 h.1)))
+  where
+    stored_honest : (old new : Outside) (e : Answer) (size : ℕ) → e ≡ answer.ImageStored size → new ≡ old → IsHonest old e new
+    stored_honest old new e size is same = let P : Answer → Type 0 = λ a. IsHonest old a new in subst P (sym is) (ap counts same, λ x. cc)
+does_honest (Run steps image) = then_honest (Fetches image) _ (fetch_quiet image) (fetch_honest image) (λ bytes. runs_honest steps image bytes)
+does_honest (Exec steps image units) =
+    then_honest (Each (λ unit. CompilesTo unit (object_name unit)) units) _ (each_quiet (λ unit. CompilesTo unit (object_name unit)) (λ unit. unit_quiet unit (object_name unit)) units) (each_honest (λ unit. CompilesTo unit (object_name unit)) (λ unit. unit_quiet unit (object_name unit)) (λ unit. unit_honest unit (object_name unit)) units) (λ files.
+    then_honest (Links (map object_name units) files) _ (link_quiet (map object_name units) files) (link_honest (map object_name units) files) (λ bytes.
+    then_honest (Stores image bytes) _ (store_quiet image bytes) (store_honest image bytes) (λ _. runs_honest steps image bytes)))

@@ -1,38 +1,105 @@
--- Which status exec has, where the files and the input tell their bytes, and that each comes for no other reason.
-use Rattle.std.specs.Prelude.{◌≡◌, ◌⊎◌, ℕ, ◌<◌, List, length, Some, None}
-use Rattle.std.specs.FinMap.{get}
-use Rattle.cc_base.specs.Outside.{file_limit}
+-- Why each status comes, where the files and the input tell their bytes: each for its own reason and for no other.
+use Rattle.std.specs.Prelude.{◌≡◌, ◌⊎◌, ℕ, List, Some, None}
 use Rattle.cc_base.specs.declared.run.Outcome.{Outcome}
 use Rattle.cc_base.specs.declared.run.Outcome.TheVariants as outcome
-use Rattle.ccelf_build.specs.declared.answer.Status.{Status}
-use Rattle.ccelf_build.specs.declared.answer.Status.TheVariants as status
-use Rattle.ccelf_build.specs.ImageRun.{image_after}
-use Rattle.ccelf_build.specs.Steps.{IsNoUnit}
-use Rattle.ccelf_build.specs.Told.{Contents, HasUnit, image_bytes}
+use Rattle.clight_syntax.specs.declared.second_items.Item.{Item}
+use Rattle.clight_syntax.specs.SecondFaults.{source_fault}
+use Rattle.clight_syntax.specs.SecondFaults as source
+use Rattle.clight_syntax.specs.SecondRun.{second_after}
+use Rattle.pass_core.specs.Refines.{Sound}
+use Rattle.elf_file.specs.Object.{Object}
+use Rattle.elf_file.specs.declared.image.ImageParts.{ImageParts}
+use Rattle.elf_linker.specs.Names.{link_fault, too_long}
+use Rattle.elf_linker.specs.Runtime.{with_runtime}
+use Rattle.elf_linker.specs.declared.fault.LinkFault.{LinkFault}
+use Rattle.elf_linker.specs.declared.fault.LinkFault.TheVariants as linking
+use Rattle.image_loader.specs.Load.{image_after}
+use Rattle.image_loader.specs.declared.fault.LoadFault.{LoadFault}
+use Rattle.second_code.specs.LinkedObjects.{linked_objects}
+use Rattle.commands.specs.declared.answer.Status.{Status}
+use Rattle.commands.specs.declared.answer.Status.TheVariants as status
+use Rattle.commands.specs.Steps.{IsFirstNoObject}
+use Rattle.ccelf_build.specs.Contents.{Contents, StandsAt, IsAbsent, IsLong, AreAll, FirstStop}
+use Rattle.ccelf_build.specs.Told.{Compiled, IsCompiled, HasNoUnit, AreObjectsAt, IsLoaded, IsNotLoaded, HasNoImage, IsBuilt, items_of}
 
 -- A fault of the outside, which raised its count, or want of memory stands in place of the status.
 abbrev pub Yields : Status → Type 0
 Yields result = (result ≡ status.ReadFault) ⊎ ((result ≡ status.WriteFault) ⊎ (result ≡ status.Memory))
 
--- under the name stands a text that is too long, or is no unit's
-pub record IsRefused (unit : List ℕ) (files : Contents) : Type 0 where
-  pub text : List ℕ
-  pub there : get files unit ≡ Some text
-  pub cause : (file_limit < length text) ⊎ IsNoUnit text
+-- The status comes for its reason. And where a status has its reason it comes, unless the outside or want of memory stands in its place.
+pub record ComesFor (reason : Status → Type 0) (result : Status) : Type 0 where
+  pub for : reason result ⊎ Yields result
+  pub comes : (s : Status) → reason s → (result ≡ s) ⊎ Yields result
 
--- under the name stands a unit's text, and its image's bytes stand so after so many instructions
-pub record Comes (steps : ℕ) (unit : List ℕ) (files : Contents) (input : List ℕ) (outcome : Outcome) : Type 0 where
-  pub found : HasUnit unit files
-  pub stands : (image_after (image_bytes found) input steps).outcome ≡ outcome
+-- the reasons of compile
+abbrev pub compile_reason : List ℕ → Contents → Status → Type 0
+compile_reason unit files status.Missing = IsAbsent files unit
+compile_reason unit files status.Limit = IsLong files unit ⊎ HasNoUnit files unit
+compile_reason unit files status.Done = (made : Compiled) × IsCompiled files unit made
+compile_reason unit files _ = ⊥
 
-pub record ExecCauses (steps : ℕ) (unit : List ℕ) (files : Contents) (input : List ℕ) (result : Status) : Type 0 where
-  -- there is no such file
-  pub absent : get files unit ≡ None → (result ≡ status.Missing) ⊎ Yields result
-  pub missing : result ≡ status.Missing → get files unit ≡ None
-  -- the file is too long, or its text is no unit's
-  pub refused : IsRefused unit files → (result ≡ status.Limit) ⊎ Yields result
-  pub limit : result ≡ status.Limit → IsRefused unit files
-  -- the text is a unit's: its image's bytes have ended after so many instructions, or they still run
-  pub compiled : HasUnit unit files → ((result ≡ status.Done) ⊎ (result ≡ status.Spent)) ⊎ Yields result
-  pub done : result ≡ status.Done → (code : ℕ) × Comes steps unit files input (outcome.Ended code)
-  pub spent : result ≡ status.Spent → Comes steps unit files input outcome.Running
+-- all files are objects, and this is what is wrong with them
+abbrev pub AreFaulty : Contents → List (List ℕ) → LinkFault → Type 0
+AreFaulty files names fault = (objects : List Object) × AreObjectsAt files names objects × (link_fault (with_runtime objects) ≡ Some fault)
+
+-- the reasons of link
+abbrev pub link_reason : List (List ℕ) → Contents → Status → Type 0
+link_reason names files status.Missing = FirstStop (StandsAt files) names (IsAbsent files)
+link_reason names files status.Limit = FirstStop (StandsAt files) names (IsLong files)
+link_reason names files status.Object = (bytes : List (List ℕ)) × AreAll (StandsAt files) names bytes × ((which : List ℕ) × IsFirstNoObject names bytes which)
+link_reason names files status.Doubled = (object symbol : ℕ) × AreFaulty files names (linking.Doubled object symbol)
+link_reason names files status.Unresolved = (object symbol : ℕ) × AreFaulty files names (linking.Unresolved object symbol)
+link_reason names files status.Sized = (object symbol stated defined : ℕ) × AreFaulty files names (linking.Sized object symbol stated defined)
+link_reason names files status.Range = (end : ℕ) × AreFaulty files names (linking.Range end)
+link_reason names files status.Done = (objects : List Object) × AreObjectsAt files names objects × (link_fault (with_runtime objects) ≡ None)
+link_reason names files _ = ⊥
+
+-- under the name stands an image, whose run has this outcome after its instructions
+abbrev pub RunsTo : ℕ → List ℕ → Contents → List ℕ → Outcome → Type 0
+RunsTo steps name files input outcome = (image : ImageParts) × IsLoaded files name image × ((image_after image input steps).outcome ≡ outcome)
+
+-- the reasons of run
+abbrev pub run_reason : ℕ → List ℕ → Contents → List ℕ → Status → Type 0
+run_reason steps name files input status.Missing = IsAbsent files name
+run_reason steps name files input status.Limit = IsLong files name
+run_reason steps name files input status.Image = HasNoImage files name ⊎ ((fault : LoadFault) × IsNotLoaded files name fault)
+run_reason steps name files input status.Done = (code : ℕ) × RunsTo steps name files input (outcome.Ended code)
+run_reason steps name files input status.Spent = RunsTo steps name files input outcome.Running
+run_reason steps name files input status.Stuck = RunsTo steps name files input outcome.Wrong
+run_reason steps name files input _ = ⊥
+
+-- all units are compiled, and this is so of their items
+abbrev pub AllCompiled : List (List ℕ) → Contents → (List (List Item) → Type 0) → Type 0
+AllCompiled units files so = (all : List Compiled) × AreAll (IsCompiled files) units all × so (items_of all)
+
+-- the reasons for which exec refuses the units
+abbrev pub refusal : List (List ℕ) → Contents → Status → Type 0
+refusal units files status.Missing = FirstStop (IsCompiled files) units (IsAbsent files)
+refusal units files status.Limit = FirstStop (IsCompiled files) units (λ unit. IsLong files unit ⊎ HasNoUnit files unit)
+refusal units files status.Doubled = AllCompiled units files (λ items. (unit : ℕ) × (name : List ℕ) × (source_fault items ≡ Some (source.Doubled unit name)))
+refusal units files status.Unresolved = AllCompiled units files (λ items. (unit : ℕ) × (name : List ℕ) × (source_fault items ≡ Some (source.Unresolved unit name)))
+refusal units files status.Range = AllCompiled units files (λ items. (source_fault items ≡ None) × ((end : ℕ) × (too_long (linked_objects items) ≡ Some (linking.Range end))))
+refusal units files _ = ⊥
+
+-- the units are a program whose image is not too long
+abbrev pub IsProgram : List (List ℕ) → Contents → Type 0
+IsProgram units files = AllCompiled units files (λ items. (source_fault items ≡ None) × (too_long (linked_objects items) ≡ None))
+
+-- the run of the image that is built of the units stands so after its instructions
+abbrev pub BuiltRunsTo : ℕ → List (List ℕ) → Contents → List ℕ → Outcome → Type 0
+BuiltRunsTo steps units files input outcome = (image : ImageParts) × IsBuilt units files input image × ((image_after image input steps).outcome ≡ outcome)
+
+-- The reasons for which a program's run has its status. It is stuck only where the source goes wrong or needs more than the stack.
+abbrev pub run_of_units : ℕ → List (List ℕ) → Contents → List ℕ → Status → Type 0
+run_of_units steps units files input status.Done = (code : ℕ) × BuiltRunsTo steps units files input (outcome.Ended code)
+run_of_units steps units files input status.Spent = BuiltRunsTo steps units files input outcome.Running
+run_of_units steps units files input status.Stuck = BuiltRunsTo steps units files input outcome.Wrong × AllCompiled units files (λ items. ¬ Sound (second_after items))
+run_of_units steps units files input _ = ⊥
+
+pub record ExecComesFor (steps : ℕ) (units : List (List ℕ)) (files : Contents) (input : List ℕ) (result : Status) : Type 0 where
+  -- the status comes for its reason
+  pub for : (refusal units files result ⊎ run_of_units steps units files input result) ⊎ Yields result
+  -- units that are refused are refused for that reason
+  pub refused : (s : Status) → refusal units files s → (result ≡ s) ⊎ Yields result
+  -- and a program is run
+  pub runs : IsProgram units files → ((result ≡ status.Done) ⊎ ((result ≡ status.Spent) ⊎ (result ≡ status.Stuck))) ⊎ Yields result

@@ -1,93 +1,247 @@
--- What exec comes to where the files and the input tell their bytes: one row for each answer.
-use Rattle.std.specs.Prelude.{◌≡◌, ◌⊎◌, ℕ, ◌<◌, ◌≤◌, List, length, drop, Some, None}
-use Rattle.std.specs.Ordering.{nat_cmp}
-use Rattle.std.specs.Cmp.Lexicographic.{slice_cmp}
-use Rattle.std.specs.FinMap.{FinMap, get, insert}
-use Rattle.cc_base.specs.Outside.{file_limit, grown}
+-- What each command comes to where the files tell their bytes, and for a run the input too: one row for each answer.
+use Rattle.std.specs.Prelude.{◌≡◌, ◌⊎◌, ℕ, ◌+◌, ◌<◌, List, [], ◌∷◌, ◌++◌, map, length, drop, Some, None, Err}
+use Rattle.cc_base.specs.Outside.{grown}
 use Rattle.cc_base.specs.Runs.{emitted, taken}
-use Rattle.cc_base.specs.declared.run.Outcome.{Outcome}
+use Rattle.cc_base.specs.declared.run.Act.{Act}
 use Rattle.cc_base.specs.declared.run.Outcome.TheVariants as outcome
-use Rattle.clight_syntax.specs.FirstForm.{IsFirstForm}
+use Rattle.clight_syntax.specs.declared.second_items.Item.{Item}
+use Rattle.clight_syntax.specs.SecondForm.{IsSecondForm}
+use Rattle.clight_syntax.specs.SecondFaults.{source_fault}
+use Rattle.clight_syntax.specs.SecondFaults as source
+use Rattle.clight_syntax.specs.SecondRun.{second_after}
 use Rattle.pass_core.specs.Refines.{Refines}
-use Rattle.ccelf_build.specs.declared.answer.Answer.TheVariants as answer
-use Rattle.ccelf_build.specs.SourceRun.{source_after}
-use Rattle.ccelf_build.specs.Code.{main_code}
-use Rattle.ccelf_build.specs.Link.{image_of}
-use Rattle.ccelf_build.specs.ImageRun.{image_after}
-use Rattle.ccelf_build.specs.Doing.{Outside, Command}
-use Rattle.ccelf_build.specs.Steps.{IsNoUnit}
-use Rattle.ccelf_build.specs.Commands.{object_name}
+use Rattle.elf_file.specs.Object.{Object}
+use Rattle.elf_file.specs.Read.{IsFileOf}
+use Rattle.elf_file.specs.Image.{IsImageOf}
+use Rattle.elf_file.specs.declared.image.ImageParts.{ImageParts}
+use Rattle.elf_linker.specs.Linked.{Linked}
+use Rattle.elf_linker.specs.Names.{link_fault, too_long}
+use Rattle.elf_linker.specs.declared.fault.LinkFault.TheVariants as linking
+use Rattle.i386_machine.specs.declared.event.Cause.{Cause}
+use Rattle.i386_machine.specs.declared.event.Standing.TheVariants as standing
+use Rattle.i386_machine.specs.Runs.{after}
+use Rattle.image_loader.specs.Load.{load_fault, image_after, loaded}
+use Rattle.image_loader.specs.declared.fault.LoadFault.{LoadFault}
+use Rattle.image_loader.specs.declared.fault.LoadFault.TheVariants as load
+use Rattle.second_code.specs.Parts.{parts_of}
+use Rattle.second_code.specs.LinkedObjects.{linked_objects}
+use Rattle.command_words.specs.Commands.{object_name}
+use Rattle.commands.specs.declared.answer.Answer.TheVariants as answer
+use Rattle.commands.specs.Doing.{Outside, Command}
+use Rattle.commands.specs.Steps.{IsNoUnit, AreObjectFiles, IsFirstNoObject, IsLinkedImage, LinkedBy, file_name, IsAsked, IsGiven}
+use Rattle.ccelf_build.specs.Contents.{Contents, StandsAt, IsAbsent, IsLong, AreAll, FirstStop, NamedBytes, put_all, DidPut}
 
-abbrev pub Contents : Type 0
-Contents = FinMap (slice_cmp nat_cmp) (List ℕ)
+-- a unit that was compiled: its items and the bytes of its object
+pub record Compiled : Type 0 where
+  pub items : List Item
+  pub object : List ℕ
 
--- under the unit's name stands a text of the form, with these numbers to put and this one to return, and it is not too long
-pub record HasUnit (unit : List ℕ) (files : Contents) : Type 0 where
+-- Under the name stands a text of these items, and the object is the one file that is written for them. No other text has a part in it.
+pub record IsCompiled (files : Contents) (unit : List ℕ) (made : Compiled) : Type 0 where
   pub text : List ℕ
-  pub puts : List ℕ
-  pub status : ℕ
-  pub there : get files unit ≡ Some text
-  pub short : length text ≤ file_limit
-  pub form : IsFirstForm text puts status
+  pub stands : StandsAt files unit text
+  pub form : IsSecondForm text made.items
+  pub written : IsFileOf (parts_of made.items) made.object
 
--- the object of the unit, and the image that is made of it
-abbrev pub object_bytes : {unit : List ℕ} {files : Contents} → HasUnit unit files → List ℕ
-object_bytes u = main_code u.puts u.status
+-- under the name stands a text that is no unit's
+abbrev pub HasNoUnit : Contents → List ℕ → Type 0
+HasNoUnit files unit = (text : List ℕ) × StandsAt files unit text × IsNoUnit text
 
-abbrev pub image_bytes : {unit : List ℕ} {files : Contents} → HasUnit unit files → List ℕ
-image_bytes u = image_of (main_code u.puts u.status)
+-- compile: the object of the unit is put under its name
+abbrev pub compile_told : List ℕ → List ℕ → Contents → Command
+compile_told unit object files old (answer.Missing which) new = (which ≡ unit) × IsAbsent files unit × DidPut files [] old new
+compile_told unit object files old (answer.LimitFile which) new = (which ≡ unit) × IsLong files unit × DidPut files [] old new
+compile_told unit object files old (answer.LimitForm which) new = (which ≡ unit) × HasNoUnit files unit × DidPut files [] old new
+compile_told unit object files old (answer.ObjectStored size) new =
+    (made : Compiled) × IsCompiled files unit made × (size ≡ length made.object) × DidPut files (record { name = object; bytes = made.object } ∷ []) old new
+compile_told unit object files old answer.ReadFault new = DidPut files [] old new
+compile_told unit object files old answer.WriteFault new = DidPut files [] old new
+compile_told unit object files old answer.Memory new =
+    DidPut files [] old new ⊎ ((made : Compiled) × IsCompiled files unit made × DidPut files (record { name = object; bytes = made.object } ∷ []) old new)
+compile_told unit object files old _ new = ⊥
 
--- nothing was put, taken or emitted
-pub record Untouched (old new : Outside) : Type 0 where
-  pub files : new.files.told ≡ old.files.told
-  pub input : new.input ≡ old.input
-  pub output : new.output ≡ old.output
+-- the file is the object of a text of these items
+pub record IsMade (items : List Item) (file : List ℕ) : Type 0 where
+  pub text : List ℕ
+  pub form : IsSecondForm text items
+  pub written : IsFileOf (parts_of items) file
 
--- the unit's object was put, and nothing else was done
-pub record ObjectPut (unit object : List ℕ) (files : Contents) (old new : Outside) : Type 0 where
-  pub put : new.files.told ≡ Some (insert files (object_name unit) object)
-  pub input : new.input ≡ old.input
-  pub output : new.output ≡ old.output
+-- these are objects of units, one by one, whenever and wherever they were made
+abbrev pub AreMade : List (List Item) → List (List ℕ) → Type 0
+AreMade [] [] = Unit {0}
+AreMade [] (file ∷ files) = ⊥
+AreMade (items ∷ units) [] = ⊥
+AreMade (items ∷ units) (file ∷ files) = IsMade items file × AreMade units files
 
--- object and image were put, and nothing else was done
-pub record ImagePut (image unit object bytes : List ℕ) (files : Contents) (old new : Outside) : Type 0 where
-  pub put : new.files.told ≡ Some (insert (insert files (object_name unit) object) image bytes)
-  pub input : new.input ≡ old.input
-  pub output : new.output ≡ old.output
+-- the files of these names are objects
+pub record AreObjectsAt (contents : Contents) (names : List (List ℕ)) (objects : List Object) : Type 0 where
+  pub files : List (List ℕ)
+  pub stand : AreAll (StandsAt contents) names files
+  pub are : AreObjectFiles files objects
 
--- Object and image were put, and the image's bytes have been run for so many instructions: the output has grown by just what they have
--- emitted, and the input lacks just what they have taken.
-pub record RanFor (image unit object bytes : List ℕ) (files : Contents) (input : List ℕ) (n : ℕ) (old new : Outside) : Type 0 where
-  pub put : new.files.told ≡ Some (insert (insert files (object_name unit) object) image bytes)
-  pub emits : new.output.told ≡ (grown old.output (emitted (image_after bytes input n).acts)).told
-  pub takes : new.input.told ≡ Some (drop (taken (image_after bytes input n).acts) input)
+-- the files of these names are objects, and what is wrong with them is told
+abbrev pub IsLinkFault : Contents → List (List ℕ) → (List Object → Type 0) → Type 0
+IsLinkFault contents names told = (objects : List Object) × AreObjectsAt contents names objects × told objects
 
--- The run stands so after all its instructions, and the image's bytes refine the unit.
-pub record RanTo (image unit : List ℕ) (files : Contents) (input : List ℕ) (steps : ℕ) (outcome : Outcome) (old new : Outside) : Type 0 where
-  pub found : HasUnit unit files
-  pub ran : RanFor image unit (object_bytes found) (image_bytes found) files input steps old new
-  pub stands : (image_after (image_bytes found) input steps).outcome ≡ outcome
-  pub refines : Refines (source_after found.puts found.status) (image_after (image_bytes found) input)
+-- An image is linked from the objects of these names and put. Where they are objects of units of the second form, on any input its bytes do
+-- what the linked units mean.
+pub record ImageLinked (contents : Contents) (names : List (List ℕ)) (image : List ℕ) (size : ℕ) (old new : Outside) : Type 0 where
+  pub objects : List Object
+  pub at : AreObjectsAt contents names objects
+  pub bytes : List ℕ
+  pub linked : IsLinkedImage objects bytes
+  pub size_is : size ≡ length bytes
+  pub put : DidPut contents (record { name = image; bytes = bytes } ∷ []) old new
+  pub refines : (units : List (List Item)) → AreMade units at.files → (input : List ℕ) → Refines (second_after units) (image_after linked.image input)
 
--- the outside cut the run off
-pub record RanUntil (image unit : List ℕ) (files : Contents) (input : List ℕ) (steps : ℕ) (old new : Outside) : Type 0 where
-  pub found : HasUnit unit files
+abbrev pub link_told : List ℕ → List (List ℕ) → Contents → Command
+link_told image names files old (answer.Missing which) new = FirstStop (StandsAt files) names (λ name. (which ≡ name) × IsAbsent files name) × DidPut files [] old new
+link_told image names files old (answer.LimitFile which) new = FirstStop (StandsAt files) names (λ name. (which ≡ name) × IsLong files name) × DidPut files [] old new
+link_told image names files old (answer.ObjectForm which) new =
+    ((bytes : List (List ℕ)) × AreAll (StandsAt files) names bytes × IsFirstNoObject names bytes which) × DidPut files [] old new
+link_told image names files old (answer.Doubled name file) new = IsLinkFault files names (λ objects. LinkedBy names objects (Err (answer.Doubled name file))) × DidPut files [] old new
+link_told image names files old (answer.Unresolved name file) new = IsLinkFault files names (λ objects. LinkedBy names objects (Err (answer.Unresolved name file))) × DidPut files [] old new
+link_told image names files old (answer.Sized name file stated defined) new =
+    IsLinkFault files names (λ objects. LinkedBy names objects (Err (answer.Sized name file stated defined))) × DidPut files [] old new
+link_told image names files old (answer.Range end) new = IsLinkFault files names (λ objects. LinkedBy names objects (Err (answer.Range end))) × DidPut files [] old new
+link_told image names files old (answer.ImageStored size) new = ImageLinked files names image size old new
+link_told image names files old answer.ReadFault new = DidPut files [] old new
+link_told image names files old answer.WriteFault new = DidPut files [] old new
+link_told image names files old answer.Memory new = DidPut files [] old new
+link_told image names files old _ new = ⊥
+
+-- the output has grown by what an image has emitted after so many instructions, and the input lacks what it has taken
+pub record RanFor (image : ImageParts) (input : List ℕ) (count : ℕ) (old new : Outside) : Type 0 where
+  pub emits : new.output.told ≡ (grown old.output (emitted (image_after image input count).acts)).told
+  pub takes : new.input.told ≡ Some (drop (taken (image_after image input count).acts) input)
+
+-- the outside cut the run off, in the instruction after so many
+pub record RanUntil (image : ImageParts) (input : List ℕ) (steps : ℕ) (P : Act → Type 0) (old new : Outside) : Type 0 where
   pub count : ℕ
   pub fewer : count < steps
-  pub ran : RanFor image unit (object_bytes found) (image_bytes found) files input count old new
+  pub ran : RanFor image input count old new
+  pub next : (act : Act) × P act × ((image_after image input (count + 1)).acts ≡ (image_after image input count).acts ++ act ∷ [])
 
--- the unit was compiled, and then the command was cut off while it put the object or the image, or ran it
-pub record CutShort (image unit : List ℕ) (files : Contents) (input : List ℕ) (steps : ℕ) (old new : Outside) : Type 0 where
-  pub found : HasUnit unit files
-  pub reached : Untouched old new ⊎ (ObjectPut unit (object_bytes found) files old new ⊎ (ImagePut image unit (object_bytes found) (image_bytes found) files old new ⊎ RanUntil image unit files input steps old new))
+-- the machine is stuck at this address for this cause
+abbrev pub IsStuck : ImageParts → List ℕ → ℕ → ℕ → Cause → Type 0
+IsStuck image input steps eip cause =
+    ((after (loaded image) input steps).machine.eip ≡ eip) × ((after (loaded image) input steps).machine.standing ≡ standing.Stuck cause)
 
-abbrev pub exec_told : ℕ → List ℕ → List ℕ → Contents → List ℕ → Command
-exec_told steps image unit files input old (answer.Missing which) new = (which ≡ unit) × (get files unit ≡ None) × Untouched old new
-exec_told steps image unit files input old (answer.LimitFile which) new = (which ≡ unit) × ((text : List ℕ) × (get files unit ≡ Some text) × (file_limit < length text)) × Untouched old new
-exec_told steps image unit files input old (answer.LimitForm which) new = (which ≡ unit) × ((text : List ℕ) × (get files unit ≡ Some text) × IsNoUnit text) × Untouched old new
-exec_told steps image unit files input old (answer.Ended status) new = RanTo image unit files input steps (outcome.Ended status) old new
-exec_told steps image unit files input old answer.Spent new = RanTo image unit files input steps outcome.Running old new
-exec_told steps image unit files input old answer.ReadFault new = Untouched old new ⊎ RanUntil image unit files input steps old new
-exec_told steps image unit files input old answer.WriteFault new = CutShort image unit files input steps old new
-exec_told steps image unit files input old answer.Memory new = Untouched old new ⊎ CutShort image unit files input steps old new
-exec_told steps image unit files input old _ new = ⊥
+-- how the run stands after all its instructions
+abbrev pub Comes : ImageParts → List ℕ → ℕ → Command
+Comes image input steps old (answer.Ended status) new = RanFor image input steps old new × ((image_after image input steps).outcome ≡ outcome.Ended status)
+Comes image input steps old answer.Spent new = RanFor image input steps old new × ((image_after image input steps).outcome ≡ outcome.Running)
+Comes image input steps old (answer.Stuck eip cause) new = RanFor image input steps old new × IsStuck image input steps eip cause
+Comes image input steps old answer.ReadFault new = RanUntil image input steps IsAsked old new
+Comes image input steps old answer.WriteFault new = RanUntil image input steps IsGiven old new
+Comes image input steps old answer.Memory new = RanUntil image input steps IsGiven old new
+Comes image input steps old _ new = ⊥
+
+-- the bytes under this name are those of an image, which can be loaded
+pub record IsLoaded (files : Contents) (name : List ℕ) (image : ImageParts) : Type 0 where
+  pub bytes : List ℕ
+  pub stands : StandsAt files name bytes
+  pub is : IsImageOf image bytes
+  pub loads : load_fault image ≡ None
+
+-- the bytes under this name are those of an image that cannot be loaded
+abbrev pub IsNotLoaded : Contents → List ℕ → LoadFault → Type 0
+IsNotLoaded files name fault = (bytes : List ℕ) × StandsAt files name bytes × ((image : ImageParts) × IsImageOf image bytes × (load_fault image ≡ Some fault))
+
+-- under this name stand bytes that are no image
+abbrev pub HasNoImage : Contents → List ℕ → Type 0
+HasNoImage files name = (bytes : List ℕ) × StandsAt files name bytes × ((image : ImageParts) → ¬ IsImageOf image bytes)
+
+-- the image of this name was run, and no file was put
+abbrev pub RunsIt : ℕ → List ℕ → Contents → List ℕ → Command
+RunsIt steps name files input old told new = (new.files.told ≡ Some files) × ((image : ImageParts) × IsLoaded files name image × Comes image input steps old told new)
+
+abbrev pub run_told : ℕ → List ℕ → Contents → List ℕ → Command
+run_told steps name files input old (answer.Missing which) new = (which ≡ name) × IsAbsent files name × DidPut files [] old new
+run_told steps name files input old (answer.LimitFile which) new = (which ≡ name) × IsLong files name × DidPut files [] old new
+run_told steps name files input old (answer.ImageForm which) new = (which ≡ name) × HasNoImage files name × DidPut files [] old new
+run_told steps name files input old (answer.ImageSegment which index) new = (which ≡ name) × IsNotLoaded files name (load.Segment index) × DidPut files [] old new
+run_told steps name files input old (answer.ImageEntry which) new = (which ≡ name) × IsNotLoaded files name load.Entry × DidPut files [] old new
+run_told steps name files input old (answer.Ended status) new = RunsIt steps name files input old (answer.Ended status) new
+run_told steps name files input old answer.Spent new = RunsIt steps name files input old answer.Spent new
+run_told steps name files input old (answer.Stuck eip cause) new = RunsIt steps name files input old (answer.Stuck eip cause) new
+run_told steps name files input old answer.ReadFault new = DidPut files [] old new ⊎ RunsIt steps name files input old answer.ReadFault new
+run_told steps name files input old answer.WriteFault new = RunsIt steps name files input old answer.WriteFault new
+run_told steps name files input old answer.Memory new = DidPut files [] old new ⊎ RunsIt steps name files input old answer.Memory new
+run_told steps name files input old _ new = ⊥
+
+-- the objects of units, each under the name that is the unit's with .o
+abbrev pub objects_of : List (List ℕ) → List Compiled → List NamedBytes
+objects_of [] all = []
+objects_of (unit ∷ units) [] = []
+objects_of (unit ∷ units) (made ∷ all) = record { name = object_name unit; bytes = made.object } ∷ objects_of units all
+
+-- the items of units
+abbrev pub items_of : List Compiled → List (List Item)
+items_of all = map (λ (made : Compiled). made.items) all
+
+-- a unit stops the command, and the units before it were compiled, each alone, and their objects put
+abbrev pub UnitStops : (List ℕ → Type 0) → List (List ℕ) → Contents → Outside → Outside → Type 0
+UnitStops stops units files old new = (first : FirstStop (IsCompiled files) units stops) × DidPut files (objects_of first.done first.all) old new
+
+-- some of the units, the first ones, were compiled, each alone, and their objects put
+pub record SomePut (units : List (List ℕ)) (files : Contents) (old new : Outside) : Type 0 where
+  pub done : List (List ℕ)
+  pub left : List (List ℕ)
+  pub order : units ≡ done ++ left
+  pub all : List Compiled
+  pub are : AreAll (IsCompiled files) done all
+  pub put : DidPut files (objects_of done all) old new
+
+-- all units were compiled, each alone, and their objects put, and this is so of their items
+pub record AllPut (so : List (List Item) → Type 0) (units : List (List ℕ)) (files : Contents) (old new : Outside) : Type 0 where
+  pub all : List Compiled
+  pub are : AreAll (IsCompiled files) units all
+  pub is : so (items_of all)
+  pub put : DidPut files (objects_of units all) old new
+
+-- The units are compiled, each alone, and the image is linked from just these objects. On the input its bytes do what the linked units mean.
+pub record IsBuilt (units : List (List ℕ)) (files : Contents) (input : List ℕ) (image : ImageParts) : Type 0 where
+  pub all : List Compiled
+  pub are : AreAll (IsCompiled files) units all
+  pub linked : Linked (linked_objects (items_of all)) image
+  pub no_fault : link_fault (linked_objects (items_of all)) ≡ None
+  pub bytes : List ℕ
+  pub written : IsImageOf image bytes
+  pub refines : Refines (second_after (items_of all)) (image_after image input)
+
+-- the puts of a command that came so far
+abbrev pub built_puts : {files : Contents} {input : List ℕ} {parts : ImageParts} → (units : List (List ℕ)) → List ℕ → IsBuilt units files input parts → List NamedBytes
+built_puts units image built = objects_of units built.all ++ record { name = image; bytes = built.bytes } ∷ []
+
+-- objects and image were put, and this is so of the image
+abbrev pub Builds : (ImageParts → Outside → Outside → Type 0) → List ℕ → List (List ℕ) → Contents → List ℕ → Outside → Outside → Type 0
+Builds so image units files input old new =
+    (parts : ImageParts) × ((built : IsBuilt units files input parts) × (new.files.told ≡ Some (put_all (built_puts units image built) files))) × so parts old new
+
+-- they were put, and nothing was taken or emitted
+abbrev pub ImagePut : List ℕ → List (List ℕ) → Contents → List ℕ → Outside → Outside → Type 0
+ImagePut image units files input old new = Builds (λ parts before behind. (behind.input ≡ before.input) × (behind.output ≡ before.output)) image units files input old new
+
+-- they were put, and the image's bytes were run
+abbrev pub BuildsAndRuns : ℕ → List ℕ → List (List ℕ) → Contents → List ℕ → Command
+BuildsAndRuns steps image units files input old told new = Builds (λ parts before behind. Comes parts input steps before told behind) image units files input old new
+
+abbrev pub exec_told : ℕ → List ℕ → List (List ℕ) → Contents → List ℕ → Command
+exec_told steps image units files input old (answer.Missing which) new = UnitStops (λ unit. (which ≡ unit) × IsAbsent files unit) units files old new
+exec_told steps image units files input old (answer.LimitFile which) new = UnitStops (λ unit. (which ≡ unit) × IsLong files unit) units files old new
+exec_told steps image units files input old (answer.LimitForm which) new = UnitStops (λ unit. (which ≡ unit) × HasNoUnit files unit) units files old new
+exec_told steps image units files input old (answer.Doubled name file) new =
+    AllPut (λ items. (unit : ℕ) × (source_fault items ≡ Some (source.Doubled unit name)) × (file ≡ file_name (map object_name units) unit)) units files old new
+exec_told steps image units files input old (answer.Unresolved name file) new =
+    AllPut (λ items. (unit : ℕ) × (source_fault items ≡ Some (source.Unresolved unit name)) × (file ≡ file_name (map object_name units) unit)) units files old new
+exec_told steps image units files input old (answer.Range end) new =
+    AllPut (λ items. (source_fault items ≡ None) × (too_long (linked_objects items) ≡ Some (linking.Range end))) units files old new
+exec_told steps image units files input old (answer.Ended status) new = BuildsAndRuns steps image units files input old (answer.Ended status) new
+exec_told steps image units files input old answer.Spent new = BuildsAndRuns steps image units files input old answer.Spent new
+exec_told steps image units files input old (answer.Stuck eip cause) new = BuildsAndRuns steps image units files input old (answer.Stuck eip cause) new
+exec_told steps image units files input old answer.ReadFault new = SomePut units files old new ⊎ BuildsAndRuns steps image units files input old answer.ReadFault new
+exec_told steps image units files input old answer.WriteFault new = SomePut units files old new ⊎ BuildsAndRuns steps image units files input old answer.WriteFault new
+exec_told steps image units files input old answer.Memory new =
+    SomePut units files old new ⊎ (ImagePut image units files input old new ⊎ BuildsAndRuns steps image units files input old answer.Memory new)
+exec_told steps image units files input old _ new = ⊥

@@ -1,64 +1,9 @@
 // The end of every command.
-ghost use Rattle.std.specs.Prelude.{◌≡◌, ◌≢◌, ◌≤◌, ◌<◌, IfOk, OnErr, ℕ, length, take};
-ghost use Rattle.cc_base.specs.Outside.{grown, SinkFailed, SinkWanted};
-ghost use Rattle.ccelf_build.specs.Answers.{status_of, line_of};
 ghost use Rattle.ccelf_build.specs.Ends.{Ends, Said};
 
-use crate::answer::{Answer, Status};
-use cc_base::{GiveFault, Sink, Text, word_text};
-use std::alloc::{AllocError, Global};
-
-// The status that stands for an answer.
-fn status(answer: &Answer) -> Status
-    ensures { result ≡ status_of answer.now }
-{
-    match answer {
-        Answer::Words => Status::Words,
-        Answer::Memory => Status::Memory,
-        Answer::Missing(_) => Status::Missing,
-        Answer::ReadFault => Status::ReadFault,
-        Answer::WriteFault => Status::WriteFault,
-        Answer::LimitFile(_) => Status::Limit,
-        Answer::LimitForm(_) => Status::Limit,
-        Answer::Ended(_) => Status::Done,
-        Answer::Spent => Status::Spent,
-    }
-}
-
-// The line that tells an answer.
-fn line(alloc: Global, answer: &Answer) -> Result<Text, AllocError>
-    ensures line { IfOk result (λ line. line ≡ line_of answer.now) }
-    // After a write fault there is no line to make, and so no want of memory.
-    ensures none { OnErr result (status_of answer.now ≢ Status.WriteFault) }
-{
-    let mut line = Text::new(alloc);
-    match answer {
-        Answer::Words => line.extend(b"words\n")?,
-        Answer::Memory => {}
-        Answer::Missing(name) => {
-            line.extend(b"missing ")?;
-            line.extend(name.as_slice())?;
-            line.push(b'\n')?;
-        }
-        Answer::ReadFault => line.extend(b"read\n")?,
-        Answer::WriteFault => {}
-        Answer::LimitFile(name) => {
-            line.extend(name.as_slice())?;
-            line.extend(b": limit file\n")?;
-        }
-        Answer::LimitForm(name) => {
-            line.extend(name.as_slice())?;
-            line.extend(b": limit form\n")?;
-        }
-        Answer::Ended(code) => {
-            line.extend(b"exit ")?;
-            line.extend(word_text(*code as u64).as_slice())?;
-            line.push(b'\n')?;
-        }
-        Answer::Spent => line.extend(b"spent\n")?,
-    }
-    Ok(line)
-}
+use cc_base::{GiveFault, Sink};
+use commands::{Answer, Status, line};
+use std::alloc::Global;
 
 // Gives the line, and flushes the report.
 fn say<R: Sink>(line: &[u8], report: &mut R) -> Result<(), Status>
@@ -96,5 +41,5 @@ pub fn finish<O: Sink, R: Sink>(
     if let Err(status) = say(line.as_slice(), report) {
         return status;
     }
-    status(answer)
+    answer.status()
 }

@@ -1,16 +1,10 @@
-//! The commands, and the one call that does all that the program does.
+//! The one call that does all that the program does: it reads the words, does what they ask for (`commands`), and ends
+//! as every command does. `specs/Promise.antt` says what it promises.
 #![tactic(auto)]
 
-mod answer;
-mod code;
-mod commands;
 mod finish;
-mod image;
-mod link;
-mod load;
-mod steps;
+mod laws;
 mod top;
-mod words;
 
-pub use answer::Status;
+pub use commands::Status;
 pub use top::ccelf;

@@ -1,20 +1,22 @@
 // The one call that does all that the program does.
 ghost use Rattle.std.specs.Prelude.{◌≡◌};
-ghost use Rattle.ccelf_build.specs.Commands.{Request, Fits, FitsNone, does, refuses};
-ghost use Rattle.ccelf_build.specs.Doing.{outside};
-ghost use Rattle.ccelf_build.specs.Orders.{texts};
-ghost use Rattle.ccelf_build.specs.Promise.{world, Promise};
+ghost use Rattle.command_words.specs.Commands.{Request, Fits, FitsNone};
+ghost use Rattle.command_words.specs.Orders.{texts};
+ghost use Rattle.commands.specs.declared.answer.Answer.{Answer};
+ghost use Rattle.commands.specs.Doing.{outside, Says};
+ghost use Rattle.commands.specs.Does.{does};
+ghost use Rattle.ccelf_build.specs.Promise.{world, Asked, Promise};
 ghost use Rattle.ccelf_build.specs.Tells.{Tells};
 
-use crate::answer::{Answer, Status};
-use crate::commands::exec;
 use crate::finish::finish;
-use crate::words::{Order, read};
+use crate::laws::laws;
 use cc_base::{Files, Sink, Source};
+use command_words::read;
+use commands::{Answer, Status, perform};
 use std::alloc::Global;
 
 // All of a command but its end.
-fn perform<F: Files, S: Source, O: Sink>(
+fn answer<F: Files, S: Source, O: Sink>(
     alloc: Global,
     words: &[String],
     files: &mut F,
@@ -22,26 +24,26 @@ fn perform<F: Files, S: Source, O: Sink>(
     output: &mut O,
 ) -> Answer
     ensures fits { (r : Request) → Fits (texts words.now) r →
-        does r (outside (F.seen files.old) (S.seen input.old) (O.seen output.old))
+        Asked (does r) (outside (F.seen files.old) (S.seen input.old) (O.seen output.old))
         result (outside (F.seen files.new) (S.seen input.new) (O.seen output.new)) }
     ensures none { FitsNone (texts words.now) →
-        refuses (outside (F.seen files.old) (S.seen input.old) (O.seen output.old))
+        Asked (Says Answer.Words) (outside (F.seen files.old) (S.seen input.old) (O.seen output.old))
         result (outside (F.seen files.new) (S.seen input.new) (O.seen output.new)) }
     ensures words { result ≡ Answer.Words → FitsNone (texts words.now) }
     ensures tells { Tells (outside (F.seen files.old) (S.seen input.old) (O.seen output.old))
         result (outside (F.seen files.new) (S.seen input.new) (O.seen output.new)) }
 {
-    let Some(order) = read(words) else {
+    let Ok(order) = read(alloc, words) else {
+        return Answer::Memory;
+    };
+    let Some(order) = order else {
         return Answer::Words;
     };
-    match order {
-        Order::Exec(steps, image, unit) => return exec(
-            alloc, steps, image, unit, files, input, output,
-        ),
-    }
+    perform(alloc, &order, files, input, output)
 }
 
-/// Does what the words ask for, and tells how it went.
+/// Does what the words ask for, and tells how it went. The words are those after the program's name; the report gets
+/// one line at most.
 pub fn ccelf<F: Files, S: Source, O: Sink, R: Sink>(
     alloc: Global,
     words: &[String],
@@ -54,6 +56,7 @@ pub fn ccelf<F: Files, S: Source, O: Sink, R: Sink>(
         (world (F.seen files.old) (S.seen input.old) (O.seen output.old) (R.seen report.old)) result
         (world (F.seen files.new) (S.seen input.new) (O.seen output.new) (R.seen report.new)) }
 {
-    let answer = perform(alloc, words, files, input, output);
+    laws();
+    let answer = answer(alloc, words, files, input, output);
     finish(alloc, &answer, output, report)
 }

@@ -3,6 +3,6 @@
 #![tactic(auto)]
 
 #[cfg(test)]
-mod exec;
-#[cfg(test)]
 mod linking;
+#[cfg(test)]
+mod program;

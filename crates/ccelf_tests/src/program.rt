@@ -1,4 +1,4 @@
-// The command exec.
+// The whole program, over files, an input and an output in memory.
 use cc_base::{Bytes, Calls, Files, GetFault, MemFiles, MemSink, MemSource};
 use ccelf_build::{Status, ccelf};
 use std::alloc::{AllocError, Global};
@@ -39,17 +39,19 @@ fn calls(alloc: Global, number: u64) -> Result<Calls, AllocError> {
     Ok(Calls::from_vec(Vec::from_slice(alloc, &[number])?))
 }
 
-/// Runs the program with these words, where a.c holds this text.
-fn end_of(alloc: Global, all: &[&str], text: &[u8], fails: Fails) -> Result<Ended, Fail> {
-    let mut files = MemFiles::new(alloc, calls(alloc, fails.files)?);
-    files.put(alloc, "a.c", text)?;
+/// Runs the program with these words over these files.
+fn end_over(
+    alloc: Global,
+    words: &[String],
+    mut files: MemFiles,
+    fails: Fails,
+) -> Result<Ended, Fail> {
     let mut input = MemSource::new(Bytes::new(alloc), calls(alloc, 0)?);
     let mut output = MemSink::new(alloc, calls(alloc, fails.output)?);
     let mut report = MemSink::new(alloc, calls(alloc, fails.report)?);
-    let words = words(alloc, all)?;
     let status = ccelf(
         alloc,
-        words.as_slice(),
+        words,
         &mut files,
         &mut input,
         &mut output,
@@ -63,12 +65,21 @@ fn end_of(alloc: Global, all: &[&str], text: &[u8], fails: Fails) -> Result<Ende
     })
 }
 
+/// Runs the program with these words, where a.c holds this text.
+fn end_of(alloc: Global, all: &[&str], text: &[u8], fails: Fails) -> Result<Ended, Fail> {
+    let mut files = MemFiles::new(alloc, calls(alloc, fails.files)?);
+    files.put(alloc, "a.c", text)?;
+    let words = words(alloc, all)?;
+    end_over(alloc, words.as_slice(), files, fails)
+}
+
 const EXEC: [&str; 4] = ["exec", "1000", "out", "a.c"];
 
 const H_AND_7: &str = "int main(void) { putbyte(72); return 7; }";
 
 #[test]
 fn units_run(rt: HostRuntime) -> Result<(), Fail> {
+    // The start calls main, which returns to three more instructions; a byte takes 12.
     let rows: [(&str, &str, &str, &str, Status); 8] = [
         (
             "int main(void) { return 7; }",
@@ -91,8 +102,8 @@ fn units_run(rt: HostRuntime) -> Result<(), Fail> {
             "exit 0\n",
             Status::Done,
         ),
-        (H_AND_7, "16", "H", "exit 7\n", Status::Done),
-        (H_AND_7, "15", "H", "spent\n", Status::Spent),
+        (H_AND_7, "18", "H", "exit 7\n", Status::Done),
+        (H_AND_7, "17", "H", "spent\n", Status::Spent),
         (H_AND_7, "0", "", "spent\n", Status::Spent),
         (
             "int main(void) { return -1; }",
@@ -102,11 +113,11 @@ fn units_run(rt: HostRuntime) -> Result<(), Fail> {
             Status::Limit,
         ),
         (
-            "int main() { return 7; }",
+            "int f(void) { return 7; }",
             "1000",
             "",
-            "a.c: limit form\n",
-            Status::Limit,
+            "unresolved main runtime\n",
+            Status::Unresolved,
         ),
     ];
     for (text, steps, output, report, status) in rows {
@@ -210,26 +221,6 @@ fn faults_end_the_command(rt: HostRuntime) -> Result<(), Fail> {
 }
 
 #[test]
-fn object_and_image_are_stored(rt: HostRuntime) -> Result<(), Fail> {
-    let alloc = rt.alloc();
-    let mut ended = end_of(alloc, &EXEC, H_AND_7.as_bytes(), NONE)?;
-    let object = ended.files.get(alloc, "a.o")?;
-    assert_eq!(rt; object.len(), 34);
-    let image = ended.files.get(alloc, "out")?;
-    assert_eq!(rt; image.len(), 4158);
-    assert_eq!(rt;
-        &image.as_slice()[24..28],
-        [0x30, 0x90, 0x04, 0x08].as_slice()
-    );
-    assert_eq!(rt; &image.as_slice()[4096..4130], object.as_slice());
-    assert_eq!(rt;
-        &image.as_slice()[4144..4149],
-        [0xe8, 0xcb, 0xff, 0xff, 0xff].as_slice()
-    );
-    Ok(())
-}
-
-#[test]
 fn nothing_is_stored_where_the_first_put_fails(rt: HostRuntime) -> Result<(), Fail> {
     let alloc = rt.alloc();
     let mut ended = end_of(alloc, &EXEC, H_AND_7.as_bytes(), Fails { files: 3, ..NONE })?;
@@ -244,23 +235,76 @@ fn nothing_is_stored_where_the_first_put_fails(rt: HostRuntime) -> Result<(), Fa
     Ok(())
 }
 
+/// The commands on two units, one after the other: the objects, the image and the bytes that it emits.
+const SEPARATE: [(&str, &str, &str, Status); 7] = [
+    ("compile a.c a.o", "", "object 708\n", Status::Done),
+    ("compile b.c b.o", "", "object 676\n", Status::Done),
+    ("link out a.o", "", "unresolved f a.o\n", Status::Unresolved),
+    (
+        "link out a.o b.o b.c",
+        "",
+        "b.c: object form\n",
+        Status::Object,
+    ),
+    ("link out a.o b.o", "", "image 4254\n", Status::Done),
+    ("run 33 out", "AB", "exit 3\n", Status::Done),
+    ("run 32 out", "AB", "spent\n", Status::Spent),
+];
+
 #[test]
-fn puts_are_counted(rt: HostRuntime) -> Result<(), Fail> {
+fn units_are_compiled_alone_and_linked_later(rt: HostRuntime) -> Result<(), Fail> {
     let alloc = rt.alloc();
-    let rows: [(u32, Status); 2] = [(1000, Status::Done), (1001, Status::Limit)];
-    for (count, status) in rows {
-        let mut text = String::from_str(alloc, "int main(void) {")?;
-        for _ in 0..count {
-            text.push_str(" putbyte(65);")?;
+    let mut files = MemFiles::new(alloc, Calls::new(alloc));
+    let a = "int f(void); int main(void) { f(); putbyte(66); return 3; }";
+    files.put(alloc, "a.c", a.as_bytes())?;
+    files.put(
+        alloc,
+        "b.c",
+        b"int f(void) { putbyte(65); return 0; }".as_slice(),
+    )?;
+    for (line, output, report, status) in SEPARATE {
+        let mut all = Vec::new(alloc);
+        for word in line.split(' ') {
+            all.push(String::from_str(alloc, word)?)?;
         }
-        text.push_str(" return 0; }")?;
-        let ended = end_of(
-            alloc,
-            &["exec", "10000", "out", "a.c"],
-            text.as_bytes(),
-            NONE,
-        )?;
-        assert_eq!(rt; ended.status, status, "{count}");
+        let ended = end_over(alloc, all.as_slice(), files, NONE)?;
+        assert_eq!(rt; ended.status, status, "{line}");
+        assert_eq!(rt; ended.output.bytes(), output.as_bytes(), "{line}");
+        assert_eq!(rt; ended.report.bytes(), report.as_bytes(), "{line}");
+        files = ended.files;
     }
+    Ok(())
+}
+
+/// How many units stand in the chain: as many as a command takes.
+const CHAIN: u32 = 4096;
+
+// The text of one unit of the chain: its function calls that of the next, and the last emits a byte.
+fn link_of_chain(alloc: Global, number: u32) -> Result<String, AllocError> {
+    if number + 1 == CHAIN {
+        return format!(in alloc; "int f{number}(void) {{ putbyte(88); return 0; }}");
+    }
+    let next = number + 1;
+    if number == 0 {
+        return format!(in alloc; "int f{next}(void); int main(void) {{ f{next}(); return 42; }}");
+    }
+    format!(in alloc; "int f{next}(void); int f{number}(void) {{ f{next}(); return 0; }}")
+}
+
+#[test]
+fn a_chain_of_units_ends(rt: HostRuntime) -> Result<(), Fail> {
+    let alloc = rt.alloc();
+    let mut files = MemFiles::new(alloc, Calls::new(alloc));
+    let mut all = words(alloc, &["exec", "100000", "out"])?;
+    for number in 0..CHAIN {
+        let name = format!(in alloc; "u{number}.c")?;
+        let text = link_of_chain(alloc, number)?;
+        files.put(alloc, name.as_str(), text.as_bytes())?;
+        all.push(name)?;
+    }
+    let ended = end_over(alloc, all.as_slice(), files, NONE)?;
+    assert_eq!(rt; ended.report.bytes(), b"exit 42\n".as_slice());
+    assert_eq!(rt; ended.output.bytes(), b"X".as_slice());
+    assert_eq!(rt; ended.status, Status::Done);
     Ok(())
 }

@@ -79,11 +79,11 @@ pub fn exec<F: Files, S: Source, O: Sink>(
     ensures { exec_does steps image.now (texts units.now) (outside (F.seen files.old) (S.seen input.old) (O.seen output.old))
         result (outside (F.seen files.new) (S.seen input.new) (O.seen output.new)) }
 {
-    let contents = match compile_all(alloc, files, units, objects) {
-        Ok(contents) => contents,
+    let made = match compile_all(alloc, files, units, objects) {
+        Ok(made) => made,
         Err(told) => return told,
     };
-    let bytes = match link_files(alloc, objects, contents.as_slice()) {
+    let bytes = match link_files(alloc, objects, made.as_slice()) {
         Ok(bytes) => bytes,
         Err(told) => return told,
     };

@@ -1,0 +1,1 @@
+int f(void) { putbyte(65); return 0; }

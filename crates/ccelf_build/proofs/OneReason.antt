@@ -1,0 +1,293 @@
+-- A status has its reason only where no other status has one.
+use Rattle.std.proofs.Common.{◌≡◌, ◌⊎◌, ◌<◌, ◌≤◌, ◌∷◌, [], ℕ, List, Option, Some, None, length, refl, inl, inr, ap, ◌∙◌, sym, subst, arith}
+use Rattle.std.specs.FinMap.{get}
+use Rattle.std.proofs.lemmas.Option.{same_Some, none-some}
+use Rattle.cc_base.specs.Outside.{file_limit}
+use Rattle.cc_base.specs.declared.run.Outcome.{Outcome}
+use Rattle.cc_base.specs.declared.run.Outcome.TheVariants as outcome
+use Rattle.clight_syntax.specs.declared.second_items.Item.{Item}
+use Rattle.clight_syntax.specs.SecondForm.{IsSecondForm}
+use Rattle.clight_syntax.specs.SecondFaults.{source_fault, SourceFault}
+use Rattle.clight_syntax.specs.SecondFaults as source
+use Rattle.elf_file.specs.Object.{Object, object_of}
+use Rattle.elf_file.specs.Image.{IsImageOf}
+use Rattle.elf_file.specs.declared.image.ImageParts.{ImageParts}
+use Rattle.elf_linker.specs.Names.{link_fault, too_long}
+use Rattle.elf_linker.specs.Runtime.{with_runtime}
+use Rattle.elf_linker.specs.declared.fault.LinkFault.{LinkFault}
+use Rattle.elf_linker.specs.declared.fault.LinkFault.TheVariants as linking
+use Rattle.image_loader.specs.Load.{load_fault, image_after}
+use Rattle.image_loader.specs.declared.fault.LoadFault.{LoadFault}
+use Rattle.second_code.specs.LinkedObjects.{linked_objects}
+use Rattle.commands.specs.declared.answer.Status.{Status}
+use Rattle.commands.specs.declared.answer.Status.TheVariants as status
+use Rattle.commands.specs.Steps.{IsObjectFile, AreObjectFiles, IsNoObject, IsFirstNoObject, this, later}
+use Rattle.ccelf_build.specs.Contents.{Contents, StandsAt, IsAbsent, IsLong, AreAll, FirstStop}
+use Rattle.ccelf_build.specs.Laws.{Laws}
+use Rattle.ccelf_build.specs.Told.{Compiled, IsCompiled, HasNoUnit, AreObjectsAt, IsLoaded, HasNoImage, IsNotLoaded, items_of}
+use Rattle.ccelf_build.specs.Causes.{compile_reason, link_reason, run_reason, refusal, IsProgram, AllCompiled}
+use Rattle.ccelf_build.proofs.Listing.{one_all, none_stops, same_stop, stop_for}
+
+both_there : (t : Option (List ℕ)) (a b : List ℕ) → t ≡ Some a → t ≡ Some b → a ≡ b
+both_there t a b p q = same_Some a b (sym p ∙ q)
+
+none_there : (t : Option (List ℕ)) (a : List ℕ) → t ≡ None → t ≡ Some a → ⊥
+none_there t a p q = none-some a (sym p ∙ q)
+
+module _ (files : Contents) where
+  one_file : (name a b : List ℕ) → StandsAt files name a → StandsAt files name b → a ≡ b
+  one_file name a b h k = both_there (get files name) a b h.there k.there
+
+  stands_absent : (name bytes : List ℕ) → StandsAt files name bytes → IsAbsent files name → ⊥
+  stands_absent name bytes h k = none_there (get files name) bytes k h.there
+
+  stands_long : (name bytes : List ℕ) → StandsAt files name bytes → IsLong files name → ⊥
+  stands_long name bytes h k = let e = ap length (both_there (get files name) bytes k.0 h.there k.1) in let s = h.short in let l = k.2 in omega arith
+
+  absent_long : (name : List ℕ) → IsAbsent files name → IsLong files name → ⊥
+  absent_long name h k = none_there (get files name) k.0 h k.1
+
+  unit_none : (name : List ℕ) (made : Compiled) → IsCompiled files name made → HasNoUnit files name → ⊥
+  unit_none name made h k =
+      let P : List ℕ → Type 0 = λ text. IsSecondForm text made.items in
+      k.2 made.items (subst P (one_file name h.text k.0 h.stands k.1) h.form)
+
+  absent_none : (name : List ℕ) → IsAbsent files name → HasNoUnit files name → ⊥
+  absent_none name h k = stands_absent name k.0 k.1 h
+
+-- compile
+module _ (unit : List ℕ) (files : Contents) where
+  stop_not_made : (made : Compiled) → IsCompiled files unit made → IsLong files unit ⊎ HasNoUnit files unit → ⊥
+  stop_not_made made h (inl k) = stands_long files unit h.text h.stands k
+  stop_not_made made h (inr k) = unit_none files unit made h k
+
+  absent_not : IsAbsent files unit → IsLong files unit ⊎ HasNoUnit files unit → ⊥
+  absent_not h (inl k) = absent_long files unit h k
+  absent_not h (inr k) = absent_none files unit h k
+
+  pub compile_one : (s t : Status) → compile_reason unit files s → compile_reason unit files t → s ≡ t
+  compile_one status.Missing status.Missing h k = refl
+  compile_one status.Missing status.Limit h k = absurd (absent_not h k)
+  compile_one status.Missing status.Done h k = absurd (stands_absent files unit k.1.text k.1.stands h)
+  compile_one status.Missing _ h k = absurd k
+  compile_one status.Limit status.Missing h k = absurd (absent_not k h)
+  compile_one status.Limit status.Limit h k = refl
+  compile_one status.Limit status.Done h k = absurd (stop_not_made k.0 k.1 h)
+  compile_one status.Limit _ h k = absurd k
+  compile_one status.Done status.Missing h k = absurd (stands_absent files unit h.1.text h.1.stands k)
+  compile_one status.Done status.Limit h k = absurd (stop_not_made h.0 h.1 k)
+  compile_one status.Done status.Done h k = refl
+  compile_one status.Done _ h k = absurd k
+  compile_one _ t h k = absurd h
+
+-- link: what is so of the files of all names decides the status
+abbrev fault_status : Option LinkFault → Status
+fault_status None = status.Done
+fault_status (Some (linking.Doubled object symbol)) = status.Doubled
+fault_status (Some (linking.Unresolved object symbol)) = status.Unresolved
+fault_status (Some (linking.Sized object symbol stated defined)) = status.Sized
+fault_status (Some (linking.Range end)) = status.Range
+fault_status (Some linking.Memory) = status.Memory
+
+abbrev StopOf : Contents → Status → List ℕ → Type 0
+StopOf files s name = ((s ≡ status.Missing) × IsAbsent files name) ⊎ ((s ≡ status.Limit) × IsLong files name)
+
+-- the kinds of reasons of link
+data LinkKind (names : List (List ℕ)) (files : Contents) (s : Status) : Type 0 where
+  stops : FirstStop (StandsAt files) names (StopOf files s) → LinkKind names files s
+  has_none : (bytes : List (List ℕ)) → AreAll (StandsAt files) names bytes → (which : List ℕ) → IsFirstNoObject names bytes which → s ≡ status.Object → LinkKind names files s
+  are_objects : (objects : List Object) → AreObjectsAt files names objects → s ≡ fault_status (link_fault (with_runtime objects)) → LinkKind names files s
+
+link_kind : (names : List (List ℕ)) (files : Contents) (s : Status) → link_reason names files s → LinkKind names files s
+link_kind names files status.Missing h = stops (stop_for _ _ _ names (λ name a. inl (refl, a)) h)
+link_kind names files status.Limit h = stops (stop_for _ _ _ names (λ name a. inr (refl, a)) h)
+link_kind names files status.Object h = has_none h.0 h.1 h.2.0 h.2.1 refl
+link_kind names files status.Doubled h = are_objects h.2.0 h.2.1 (sym (ap fault_status h.2.2))
+link_kind names files status.Unresolved h = are_objects h.2.0 h.2.1 (sym (ap fault_status h.2.2))
+link_kind names files status.Sized h = are_objects h.4.0 h.4.1 (sym (ap fault_status h.4.2))
+link_kind names files status.Range h = are_objects h.1.0 h.1.1 (sym (ap fault_status h.1.2))
+link_kind names files status.Done h = are_objects h.0 h.1 (sym (ap fault_status h.2))
+link_kind names files _ h = absurd h
+
+-- a file is one object
+one_object : Laws → (file : List ℕ) (a b : Object) → IsObjectFile file a → IsObjectFile file b → a ≡ b
+one_object laws file a b h k = h.is ∙ ap object_of (laws.one_object h.parts k.parts file h.file_of k.file_of) ∙ sym k.is
+
+same_objects : Laws → (files : List (List ℕ)) (a b : List Object) → AreObjectFiles files a → AreObjectFiles files b → a ≡ b
+same_objects laws [] [] [] h k = refl
+same_objects laws [] [] (y ∷ b) h k = absurd k
+same_objects laws [] (x ∷ a) b h k = absurd h
+same_objects laws (file ∷ files) [] b h k = absurd h
+same_objects laws (file ∷ files) (x ∷ a) [] h k = absurd k
+same_objects laws (file ∷ files) (x ∷ a) (y ∷ b) h k =
+    let e : x ≡ y = one_object laws file x y h.0 k.0 in let f : a ≡ b = same_objects laws files a b h.1 k.1 in cc
+
+all_or_none : (names files : List (List ℕ)) (objects : List Object) (which : List ℕ) → AreObjectFiles files objects → IsFirstNoObject names files which → ⊥
+all_or_none names files [] which h (this name file ns fs n) = h
+all_or_none names files [] which h (later name file w ns fs object o rest) = h
+all_or_none names files (x ∷ objects) which h (this name file ns fs n) = n h.0.parts h.0.file_of
+all_or_none names files (x ∷ objects) which h (later name file w ns fs object o rest) = all_or_none ns fs objects which h.1 rest
+
+module _ (laws : Laws) (names : List (List ℕ)) (files : Contents) where
+  goes : (s : Status) (name bytes : List ℕ) → StandsAt files name bytes → StopOf files s name → ⊥
+  goes s name bytes h (inl k) = stands_absent files name bytes h k.1
+  goes s name bytes h (inr k) = stands_long files name bytes h k.1
+
+  one_stop : (s t : Status) (name : List ℕ) → StopOf files s name → StopOf files t name → s ≡ t
+  one_stop s t name (inl h) (inl k) = h.0 ∙ sym k.0
+  one_stop s t name (inl h) (inr k) = absurd (absent_long files name h.1 k.1)
+  one_stop s t name (inr h) (inl k) = absurd (absent_long files name k.1 h.1)
+  one_stop s t name (inr h) (inr k) = h.0 ∙ sym k.0
+
+  same_bytes : (a b : List (List ℕ)) → AreAll (StandsAt files) names a → AreAll (StandsAt files) names b → a ≡ b
+  same_bytes a b h k = one_all (StandsAt files) (one_file files) names a b h k
+
+  objects_or_none : (bytes : List (List ℕ)) → AreAll (StandsAt files) names bytes → (which : List ℕ) → IsFirstNoObject names bytes which → (objects : List Object) → AreObjectsAt files names objects → ⊥
+  objects_or_none bytes h which n objects at =
+      let P : List (List ℕ) → Type 0 = λ bs. IsFirstNoObject names bs which in
+      all_or_none names at.files objects which at.are (subst P (same_bytes bytes at.files h at.stand) n)
+
+  one_list : (a b : List Object) → AreObjectsAt files names a → AreObjectsAt files names b → a ≡ b
+  one_list a b h k = let P : List (List ℕ) → Type 0 = λ bs. AreObjectFiles bs b in same_objects laws h.files a b h.are (subst P (same_bytes k.files h.files k.stand h.stand) k.are)
+
+  one_kind : (s t : Status) → LinkKind names files s → LinkKind names files t → s ≡ t
+  one_kind s t (stops f) (stops g) = let both = same_stop (StandsAt files) (StopOf files s) (StopOf files t) (goes s) (goes t) names f g in one_stop s t both.0 both.1 both.2
+  one_kind s t (stops f) (has_none bytes h which n e) = absurd (none_stops (StandsAt files) (StopOf files s) (goes s) names bytes h f)
+  one_kind s t (stops f) (are_objects objects at e) = absurd (none_stops (StandsAt files) (StopOf files s) (goes s) names at.files at.stand f)
+  one_kind s t (has_none bytes h which n e) (stops g) = absurd (none_stops (StandsAt files) (StopOf files t) (goes t) names bytes h g)
+  one_kind s t (has_none bytes h which n e) (has_none bytes' h' which' n' e') = e ∙ sym e'
+  one_kind s t (has_none bytes h which n e) (are_objects objects at e') = absurd (objects_or_none bytes h which n objects at)
+  one_kind s t (are_objects objects at e) (stops g) = absurd (none_stops (StandsAt files) (StopOf files t) (goes t) names at.files at.stand g)
+  one_kind s t (are_objects objects at e) (has_none bytes h which n e') = absurd (objects_or_none bytes h which n objects at)
+  one_kind s t (are_objects objects at e) (are_objects others at' e') = e ∙ ap (λ (os : List Object). fault_status (link_fault (with_runtime os))) (one_list objects others at at') ∙ sym e'
+
+  pub link_one : (s t : Status) → link_reason names files s → link_reason names files t → s ≡ t
+  link_one s t h k = one_kind s t (link_kind names files s h) (link_kind names files t k)
+
+-- run: the one file decides the status, and the outcome of its run
+abbrev outcome_status : Outcome → Status
+outcome_status outcome.Running = status.Spent
+outcome_status (outcome.Ended code) = status.Done
+outcome_status outcome.Wrong = status.Stuck
+outcome_status outcome.Deep = status.Words
+
+data RunKind (steps : ℕ) (name : List ℕ) (files : Contents) (input : List ℕ) (s : Status) : Type 0 where
+  absent : IsAbsent files name → s ≡ status.Missing → RunKind steps name files input s
+  long : IsLong files name → s ≡ status.Limit → RunKind steps name files input s
+  no_image : (bytes : List ℕ) → StandsAt files name bytes → ((image : ImageParts) → ¬ IsImageOf image bytes) → s ≡ status.Image → RunKind steps name files input s
+  not_loaded : (bytes : List ℕ) → StandsAt files name bytes → (image : ImageParts) → IsImageOf image bytes → (fault : LoadFault) → load_fault image ≡ Some fault → s ≡ status.Image → RunKind steps name files input s
+  runs : (image : ImageParts) → IsLoaded files name image → s ≡ outcome_status (image_after image input steps).outcome → RunKind steps name files input s
+
+module _ (laws : Laws) (steps : ℕ) (name : List ℕ) (files : Contents) (input : List ℕ) where
+  image_kind : HasNoImage files name ⊎ ((fault : LoadFault) × IsNotLoaded files name fault) → RunKind steps name files input status.Image
+  image_kind (inl h) = no_image h.0 h.1 h.2 refl
+  image_kind (inr h) = not_loaded h.1.0 h.1.1 h.1.2.0 h.1.2.1 h.0 h.1.2.2 refl
+
+  run_kind : (s : Status) → run_reason steps name files input s → RunKind steps name files input s
+  run_kind status.Missing h = absent h refl
+  run_kind status.Limit h = long h refl
+  run_kind status.Image h = image_kind h
+  run_kind status.Done h = runs h.1.0 h.1.1 (sym (ap outcome_status h.1.2))
+  run_kind status.Spent h = runs h.0 h.1 (sym (ap outcome_status h.2))
+  run_kind status.Stuck h = runs h.0 h.1 (sym (ap outcome_status h.2))
+  run_kind _ h = absurd h
+
+  no_image_here : (bytes other : List ℕ) → StandsAt files name bytes → ((image : ImageParts) → ¬ IsImageOf image bytes) → StandsAt files name other → (image : ImageParts) → IsImageOf image other → ⊥
+  no_image_here bytes other h n k image is = let P : List ℕ → Type 0 = λ bs. IsImageOf image bs in n image (subst P (one_file files name other bytes k h) is)
+
+  one_image : (bytes other : List ℕ) (a b : ImageParts) → StandsAt files name bytes → StandsAt files name other → IsImageOf a bytes → IsImageOf b other → a ≡ b
+  one_image bytes other a b h k is also = let P : List ℕ → Type 0 = λ bs. IsImageOf b bs in laws.one_image a b bytes is (subst P (one_file files name other bytes k h) also)
+
+  not_both_loaded : (bytes : List ℕ) → StandsAt files name bytes → (image : ImageParts) → IsImageOf image bytes → (fault : LoadFault) → load_fault image ≡ Some fault → (other : ImageParts) → IsLoaded files name other → ⊥
+  not_both_loaded bytes h image is fault e other l = none-some fault (sym l.loads ∙ ap load_fault (one_image l.bytes bytes other image l.stands h l.is is) ∙ e)
+
+  one_run : (s t : Status) → RunKind steps name files input s → RunKind steps name files input t → s ≡ t
+  one_run s t (absent h e) (absent k f) = e ∙ sym f
+  one_run s t (absent h e) (long k f) = absurd (absent_long files name h k)
+  one_run s t (absent h e) (no_image bytes k n f) = absurd (stands_absent files name bytes k h)
+  one_run s t (absent h e) (not_loaded bytes k image is fault l f) = absurd (stands_absent files name bytes k h)
+  one_run s t (absent h e) (runs image k f) = absurd (stands_absent files name k.bytes k.stands h)
+  one_run s t (long h e) (absent k f) = absurd (absent_long files name k h)
+  one_run s t (long h e) (long k f) = e ∙ sym f
+  one_run s t (long h e) (no_image bytes k n f) = absurd (stands_long files name bytes k h)
+  one_run s t (long h e) (not_loaded bytes k image is fault l f) = absurd (stands_long files name bytes k h)
+  one_run s t (long h e) (runs image k f) = absurd (stands_long files name k.bytes k.stands h)
+  one_run s t (no_image bytes h n e) (absent k f) = absurd (stands_absent files name bytes h k)
+  one_run s t (no_image bytes h n e) (long k f) = absurd (stands_long files name bytes h k)
+  one_run s t (no_image bytes h n e) (no_image bytes' k n' f) = e ∙ sym f
+  one_run s t (no_image bytes h n e) (not_loaded bytes' k image is fault l f) = e ∙ sym f
+  one_run s t (no_image bytes h n e) (runs image k f) = absurd (no_image_here bytes k.bytes h n k.stands image k.is)
+  one_run s t (not_loaded bytes h image is fault l e) (absent k f) = absurd (stands_absent files name bytes h k)
+  one_run s t (not_loaded bytes h image is fault l e) (long k f) = absurd (stands_long files name bytes h k)
+  one_run s t (not_loaded bytes h image is fault l e) (no_image bytes' k n f) = e ∙ sym f
+  one_run s t (not_loaded bytes h image is fault l e) (not_loaded bytes' k image' is' fault' l' f) = e ∙ sym f
+  one_run s t (not_loaded bytes h image is fault l e) (runs other k f) = absurd (not_both_loaded bytes h image is fault l other k)
+  one_run s t (runs image h e) (absent k f) = absurd (stands_absent files name h.bytes h.stands k)
+  one_run s t (runs image h e) (long k f) = absurd (stands_long files name h.bytes h.stands k)
+  one_run s t (runs image h e) (no_image bytes k n f) = absurd (no_image_here bytes h.bytes k n h.stands image h.is)
+  one_run s t (runs image h e) (not_loaded bytes k other is fault l f) = absurd (not_both_loaded bytes k other is fault l image h)
+  one_run s t (runs image h e) (runs other k f) = e ∙ ap (λ (i : ImageParts). outcome_status (image_after i input steps).outcome) (one_image h.bytes k.bytes image other h.stands k.stands h.is k.is) ∙ sym f
+
+  pub run_one : (s t : Status) → run_reason steps name files input s → run_reason steps name files input t → s ≡ t
+  run_one s t h k = one_run s t (run_kind s h) (run_kind t k)
+
+-- exec: what is so of the units decides why they are refused
+abbrev source_status : Option SourceFault → Option LinkFault → Option Status
+source_status (Some (source.Doubled unit name)) size = Some status.Doubled
+source_status (Some (source.Unresolved unit name)) size = Some status.Unresolved
+source_status None None = None
+source_status None (Some fault) = Some status.Range
+
+abbrev UnitStop : Contents → Status → List ℕ → Type 0
+UnitStop files s unit = ((s ≡ status.Missing) × IsAbsent files unit) ⊎ ((s ≡ status.Limit) × (IsLong files unit ⊎ HasNoUnit files unit))
+
+data UnitKind (units : List (List ℕ)) (files : Contents) (s : Option Status) : Type 0 where
+  stops_at : (t : Status) → s ≡ Some t → FirstStop (IsCompiled files) units (UnitStop files t) → UnitKind units files s
+  all_are : (all : List Compiled) → AreAll (IsCompiled files) units all → s ≡ source_status (source_fault (items_of all)) (too_long (linked_objects (items_of all))) → UnitKind units files s
+
+unit_kind : (units : List (List ℕ)) (files : Contents) (s : Status) → refusal units files s → UnitKind units files (Some s)
+unit_kind units files status.Missing h = stops_at status.Missing refl (stop_for _ _ _ units (λ unit a. inl (refl, a)) h)
+unit_kind units files status.Limit h = stops_at status.Limit refl (stop_for _ _ _ units (λ unit a. inr (refl, a)) h)
+unit_kind units files status.Doubled h = all_are h.0 h.1 (sym (ap (λ (f : Option SourceFault). source_status f (too_long (linked_objects (items_of h.0)))) h.2.2))
+unit_kind units files status.Unresolved h = all_are h.0 h.1 (sym (ap (λ (f : Option SourceFault). source_status f (too_long (linked_objects (items_of h.0)))) h.2.2))
+unit_kind units files status.Range h = all_are h.0 h.1 (sym ((λ i. source_status (h.2.0 i) (h.2.1.1 i))))
+unit_kind units files _ h = absurd h
+
+program_kind : (units : List (List ℕ)) (files : Contents) → IsProgram units files → UnitKind units files None
+program_kind units files h = all_are h.0 h.1 (sym ((λ i. source_status (h.2.0 i) (h.2.1 i))))
+
+module _ (laws : Laws) (units : List (List ℕ)) (files : Contents) where
+  goes_on : (s : Status) (unit : List ℕ) (made : Compiled) → IsCompiled files unit made → UnitStop files s unit → ⊥
+  goes_on s unit made h (inl k) = stands_absent files unit h.text h.stands k.1
+  goes_on s unit made h (inr k) = stop_not_made unit files made h k.1
+
+  one_unit_stop : (s t : Status) (unit : List ℕ) → UnitStop files s unit → UnitStop files t unit → s ≡ t
+  one_unit_stop s t unit (inl h) (inl k) = h.0 ∙ sym k.0
+  one_unit_stop s t unit (inl h) (inr k) = absurd (absent_not unit files h.1 k.1)
+  one_unit_stop s t unit (inr h) (inl k) = absurd (absent_not unit files k.1 h.1)
+  one_unit_stop s t unit (inr h) (inr k) = h.0 ∙ sym k.0
+
+  same_items : (names : List (List ℕ)) (a b : List Compiled) → AreAll (IsCompiled files) names a → AreAll (IsCompiled files) names b → items_of a ≡ items_of b
+  same_items [] [] [] h k = refl
+  same_items [] [] (y ∷ b) h k = absurd k
+  same_items [] (x ∷ a) b h k = absurd h
+  same_items (name ∷ names) [] b h k = absurd h
+  same_items (name ∷ names) (x ∷ a) [] h k = absurd k
+  same_items (name ∷ names) (x ∷ a) (y ∷ b) h k =
+      let P : List ℕ → Type 0 = λ text. IsSecondForm text y.items in
+      let e : x.items ≡ y.items = laws.one_form h.0.text x.items y.items h.0.form (subst P (one_file files name k.0.text h.0.text k.0.stands h.0.stands) k.0.form) in
+      let f : items_of a ≡ items_of b = same_items names a b h.1 k.1 in
+      cc
+
+  one_unit_kind : (s t : Option Status) → UnitKind units files s → UnitKind units files t → s ≡ t
+  one_unit_kind s t (stops_at a e f) (stops_at b d g) =
+      let both = same_stop (IsCompiled files) (UnitStop files a) (UnitStop files b) (goes_on a) (goes_on b) units f g in e ∙ ap (λ (x : Status). Some x) (one_unit_stop a b both.0 both.1 both.2) ∙ sym d
+  one_unit_kind s t (stops_at a e f) (all_are all h d) = absurd (none_stops (IsCompiled files) (UnitStop files a) (goes_on a) units all h f)
+  one_unit_kind s t (all_are all h d) (stops_at b e g) = absurd (none_stops (IsCompiled files) (UnitStop files b) (goes_on b) units all h g)
+  one_unit_kind s t (all_are all h d) (all_are others k e) = d ∙ ap (λ (is : List (List Item)). source_status (source_fault is) (too_long (linked_objects is))) (same_items units all others h k) ∙ sym e
+
+  pub refused_one : (s t : Status) → refusal units files s → refusal units files t → s ≡ t
+  refused_one s t h k = same_Some s t (one_unit_kind (Some s) (Some t) (unit_kind units files s h) (unit_kind units files t k))
+
+  pub not_refused : (s : Status) → refusal units files s → IsProgram units files → ⊥
+  not_refused s h p = none-some s (one_unit_kind None (Some s) (program_kind units files p) (unit_kind units files s h))
