@@ -236,9 +236,16 @@ fn nothing_is_stored_where_the_first_put_fails(rt: HostRuntime) -> Result<(), Fa
 }
 
 /// The commands on two units, one after the other: the objects, the image and the bytes that it emits.
-const SEPARATE: [(&str, &str, &str, Status); 7] = [
+const SEPARATE: [(&str, &str, &str, Status); 9] = [
     ("compile a.c a.o", "", "object 708\n", Status::Done),
     ("compile b.c b.o", "", "object 676\n", Status::Done),
+    ("compile b.c c.o", "", "object 676\n", Status::Done),
+    (
+        "link out a.o b.o c.o",
+        "",
+        "doubled f c.o\n",
+        Status::Doubled,
+    ),
     ("link out a.o", "", "unresolved f a.o\n", Status::Unresolved),
     (
         "link out a.o b.o b.c",
@@ -272,6 +279,38 @@ fn units_are_compiled_alone_and_linked_later(rt: HostRuntime) -> Result<(), Fail
         assert_eq!(rt; ended.output.bytes(), output.as_bytes(), "{line}");
         assert_eq!(rt; ended.report.bytes(), report.as_bytes(), "{line}");
         files = ended.files;
+    }
+    Ok(())
+}
+
+/// The headers of an image of one segment of 20 bytes at 0x08049000, which may be read and executed, by the gABI.
+const HEADERS: &[u8; 84] = b"\x7fELF\x01\x01\x01\0\0\0\0\0\0\0\0\0\
+    \x02\0\x03\0\x01\0\0\0\x00\x90\x04\x08\x34\0\0\0\0\0\0\0\0\0\0\0\x34\0\x20\0\x01\0\0\0\0\0\0\0\
+    \x01\0\0\0\x00\x10\0\0\x00\x90\x04\x08\x00\x90\x04\x08\x14\0\0\0\x14\0\0\0\x05\0\0\0\x00\x10\0\0";
+
+/// call 0x0804900e; mov ebx, eax; mov eax, 1; int 0x80; mov eax, 7; ret
+const CODE: &[u8; 20] = b"\xe8\x09\0\0\0\x89\xc3\xb8\x01\0\0\0\xcd\x80\xb8\x07\0\0\0\xc3";
+
+#[test]
+fn an_image_by_hand_runs(rt: HostRuntime) -> Result<(), Fail> {
+    let alloc = rt.alloc();
+    let rows: [(&str, &str, Status); 3] = [
+        ("6", "exit 7\n", Status::Done),
+        ("5", "spent\n", Status::Spent),
+        ("0", "spent\n", Status::Spent),
+    ];
+    for (steps, report, status) in rows {
+        let mut image = Vec::from_slice(alloc, HEADERS)?;
+        while image.len() < 4096 {
+            image.push(0)?;
+        }
+        image.extend_from_slice(CODE)?;
+        let mut files = MemFiles::new(alloc, Calls::new(alloc));
+        files.put(alloc, "out", image.as_slice())?;
+        let words = words(alloc, &["run", steps, "out"])?;
+        let ended = end_over(alloc, words.as_slice(), files, NONE)?;
+        assert_eq!(rt; ended.status, status, "{steps}");
+        assert_eq!(rt; ended.report.bytes(), report.as_bytes(), "{steps}");
     }
     Ok(())
 }

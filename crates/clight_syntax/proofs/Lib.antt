@@ -1,8 +1,6 @@
 pub mod Spans
 pub mod Numbers
 pub mod Steps
-pub mod Whole
-pub mod Going
 pub mod SecondTokens
 pub mod SecondItems
 pub mod NameRules

@@ -8,7 +8,7 @@ use Rattle.std.specs.Str.Parse.{ParsesUnsigned}
 use Rattle.std.proofs.lemmas.Fmt.{parse-decimal, IsAscii-decimal}
 use Rattle.std.proofs.lemmas.Str.{IsUtf8-from_ascii}
 use Rattle.std.proofs.lemmas.Slice.Eq.{bytes_eq-Decides}
-use Rattle.clight_syntax.specs.FirstForm.{IsInt}
+use Rattle.clight_syntax.specs.Statements.{IsInt}
 
 pub decimal_utf8 : (n : ℕ) (bytes : List ℕ) → IsInt n → bytes ≡ decimal n → IsUtf8 bytes
 decimal_utf8 n bytes i e = let P : List ℕ → Type 0 = IsUtf8 in subst P (sym e) (IsUtf8-from_ascii (decimal n) (IsAscii-decimal n (omega arith)))

@@ -13,7 +13,7 @@ use Rattle.clight_syntax.specs.declared.second_items.SmallStmt.{SmallStmt}
 use Rattle.clight_syntax.specs.declared.second_items.SmallStmt.TheVariants.{Put, Call, Return}
 use Rattle.clight_syntax.specs.declared.second_items.Item.{Item}
 use Rattle.clight_syntax.specs.Tokens.{Token, Sign}
-use Rattle.clight_syntax.specs.FirstForm.{return_tokens}
+use Rattle.clight_syntax.specs.Statements.{return_tokens}
 use Rattle.clight_syntax.specs.SecondForm.{statement_tokens, statements_tokens, body_tokens, function_tokens, static_tokens, item_tokens, items_tokens, EndsReturning}
 use Rattle.clight_syntax.specs.SecondReading.{seen, token_of, Lacks, LacksBody, IsStep, CallsFree, IsFreeBody, IsFreeItem}
 

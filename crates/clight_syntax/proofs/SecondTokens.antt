@@ -8,7 +8,7 @@ use Rattle.std.proofs.lemmas.List.{append-nil, take-append-drop}
 use Rattle.std.proofs.lemmas.List.Elements.{recursion_from_All, All-head, All-tail, All-weaker, All-cons, All-nil, All-push}
 use Rattle.std.proofs.lemmas.Fmt.{decimal_nonempty, decimal_injective}
 use Rattle.clight_syntax.specs.Tokens.{Token, Word, Num, Sign, spelling, IsBlank, BeginsBlank, IsWordlike, Parted, Reads}
-use Rattle.clight_syntax.specs.FirstForm.{IsInt}
+use Rattle.clight_syntax.specs.Statements.{IsInt}
 use Rattle.clight_syntax.specs.Reading.{StopsAt, IsDigit, Spans, Skips, Takes}
 use Rattle.clight_syntax.specs.SecondForm.{IsWordByte, IsIdentifier}
 use Rattle.clight_syntax.specs.declared.second_tokens.Lexeme.{Lexeme}

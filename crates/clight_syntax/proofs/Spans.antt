@@ -10,7 +10,7 @@ use Rattle.std.proofs.lemmas.Str.Parse.{IsNumeralModel, numerals_by_value, tells
 use Rattle.std.proofs.lemmas.Fmt.{digits_decimal, decimal_nonempty, decimal_injective}
 use Rattle.std.specs.Str.Parse.{digits_value}
 use Rattle.clight_syntax.specs.Tokens.{IsBlank, BeginsBlank}
-use Rattle.clight_syntax.specs.FirstForm.{IsInt}
+use Rattle.clight_syntax.specs.Statements.{IsInt}
 use Rattle.clight_syntax.specs.Reading.{StopsAt, IsDigit, Spans, Skips, is_solid, Takes}
 
 stop_cons : (P : ℕ → Type 0) (x : ℕ) (rest more : List ℕ) → rest ≡ x ∷ more → StopsAt P rest → ¬ P x
@@ -42,16 +42,6 @@ stops_end P (x ∷ text) (suc i) l = stops_end P text i (omega arith)
 pub skips_at : (text : List ℕ) (i : ℕ) → All IsBlank (take i text) → StopsAt IsBlank (drop i text) → Skips text (drop i text)
 skips_at text i a s = record { gap = take i text; spans = record { whole = sym (take-append-drop i text); all = a; stops = s } }
 
-not_blank : (x : ℕ) → not (x == 32 || x == 9 || x == 10 || x == 13) ≡ true → ¬ IsBlank x
-not_blank x h (inl e) = let g : false ≡ true = subst (λ (y : ℕ). not (y == 32 || y == 9 || y == 10 || y == 13) ≡ true) e h in cc
-not_blank x h (inr (inl e)) = let g : false ≡ true = subst (λ (y : ℕ). not (y == 32 || y == 9 || y == 10 || y == 13) ≡ true) e h in cc
-not_blank x h (inr (inr (inl e))) = let g : false ≡ true = subst (λ (y : ℕ). not (y == 32 || y == 9 || y == 10 || y == 13) ≡ true) e h in cc
-not_blank x h (inr (inr (inr e))) = let g : false ≡ true = subst (λ (y : ℕ). not (y == 32 || y == 9 || y == 10 || y == 13) ≡ true) e h in cc
-
-pub solid_stops : (bytes rest : List ℕ) → is_solid bytes ≡ true → StopsAt IsBlank (bytes ++ rest)
-solid_stops [] rest h = absurd (cc)
-solid_stops (x ∷ bytes) rest h = not_blank x h
-
 -- what is left after the blanks begins with the bytes
 pub skips_takes : {text left : List ℕ} (bytes rest : List ℕ) → StopsAt IsBlank (bytes ++ rest) → Skips text left → Takes bytes rest text → left ≡ bytes ++ rest
 skips_takes bytes rest s k t =
@@ -59,12 +49,6 @@ skips_takes bytes rest s k t =
 
 pub takes_skips : {text left : List ℕ} (bytes rest : List ℕ) → Skips text left → left ≡ bytes ++ rest → Takes bytes rest text
 takes_skips bytes rest k e = record { gap = k.gap; blank = k.spans.all; whole = k.spans.whole ∙ ap (λ xs. k.gap ++ xs) e }
-
--- the same bytes have the same rest
-pub takes_same : {text : List ℕ} (bytes rest left : List ℕ) → is_solid bytes ≡ true → Takes bytes rest text → Takes bytes left text → rest ≡ left
-takes_same bytes rest left s a b =
-    append_cancel_left bytes rest left
-    ((spans_same IsBlank b.gap (record { whole = a.whole; all = a.blank; stops = solid_stops bytes rest s }) (record { whole = b.whole; all = b.blank; stops = solid_stops bytes left s })).1)
 
 -- numbers
 digits_own : IsNumeralModel (λ ds. (i : ℕ) → i < length ds → IsInRange 48 57 (get_or ds i 0)) (digits_value 10)
@@ -87,35 +71,3 @@ digits_stop (x ∷ ds) rest l a = digit_no_blank x (All-head IsDigit x ds a)
 
 pub decimal_stops : (n : ℕ) (rest : List ℕ) → IsInt n → StopsAt IsBlank (decimal n ++ rest)
 decimal_stops n rest l = digits_stop (decimal n) rest (decimal_nonempty n (omega arith)) (decimal_digits n l)
-
--- a text begins with one number
-pub number_same : {text : List ℕ} (n m : ℕ) (rest left : List ℕ) → IsInt n → IsInt m → Takes (decimal n) rest text → Takes (decimal m) left text → StopsAt IsDigit rest → StopsAt IsDigit left → (n ≡ m) × (rest ≡ left)
-number_same n m rest left i j a b s t =
-    let after : decimal n ++ rest ≡ decimal m ++ left =
-    (spans_same IsBlank b.gap (record { whole = a.whole; all = a.blank; stops = decimal_stops n rest i }) (record { whole = b.whole; all = b.blank; stops = decimal_stops m left j })).1 in
-    let both : (decimal n ≡ decimal m) × (rest ≡ left) =
-    same_fronts IsDigit (decimal n) (decimal m) rest left (recursion_from_All IsDigit _ (decimal_digits n i)) (recursion_from_All IsDigit _ (decimal_digits m j)) s t after in
-    (decimal_injective n m (omega arith) (omega arith) both.0, both.1)
-
--- the digits that a text begins with are the number's
-pub digits_are : {text left : List ℕ} (n k : ℕ) (rest : List ℕ) → IsInt n → Skips text left → All IsDigit (take k left) → StopsAt IsDigit (drop k left) → Takes (decimal n) rest text → StopsAt IsDigit rest → take k left ≡ decimal n
-digits_are {left = left} n k rest i skips a s t u =
-    (same_fronts IsDigit (take k left) (decimal n) (drop k left) rest (recursion_from_All IsDigit _ a) (recursion_from_All IsDigit _ (decimal_digits n i)) s u
-    (take-append-drop k left ∙ skips_takes (decimal n) rest (decimal_stops n rest i) skips t)).0
-
--- blanks and then no digit
-pub no_digit_after : (gap more : List ℕ) (b : ℕ) → AllByRecursion IsBlank gap → (48 ≤ b → 57 < b) → StopsAt IsDigit (gap ++ (b ∷ more))
-no_digit_after [] more b a l = λ d. absurd (omega (arith, l d.low))
-no_digit_after (x ∷ gap) more b a l = λ d. digit_no_blank x d a.0
-
--- a text that begins with a blank
-pub first_blank : (text : List ℕ) → 1 ≤ length text → (IsBlank (get_or text 0 0) → BeginsBlank text) × (BeginsBlank text → IsBlank (get_or text 0 0))
-first_blank [] l = absurd (omega arith)
-first_blank (x ∷ text) l = (
-  (λ b. record { byte = x; rest = text; blank = b; whole = refl }),
-  (λ h. let e : h.byte ≡ x = let w = h.whole in cc in let P : ℕ → Type 0 = IsBlank in subst P e h.blank),
-)
-
-pub none_blank : (text : List ℕ) → length text ≡ 0 → ¬ BeginsBlank text
-none_blank [] l h = let w = h.whole in cc
-none_blank (x ∷ text) l h = omega arith

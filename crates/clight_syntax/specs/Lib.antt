@@ -1,5 +1,5 @@
 pub mod Tokens
-pub mod FirstForm
+pub mod Statements
 pub mod Reading
 pub mod SecondForm
 pub mod SecondReading

@@ -4,7 +4,7 @@ use Rattle.clight_syntax.specs.declared.second_items.SmallStmt.{SmallStmt}
 use Rattle.clight_syntax.specs.declared.second_items.SmallStmt.TheVariants.{Put, Call, Return}
 use Rattle.clight_syntax.specs.declared.second_items.Item.{Item}
 use Rattle.clight_syntax.specs.Tokens.{Token, Word, Num, Sign, Reads}
-use Rattle.clight_syntax.specs.FirstForm.{IsInt, put_tokens}
+use Rattle.clight_syntax.specs.Statements.{IsInt, put_tokens}
 use Rattle.clight_syntax.specs.Reading.{IsDigit}
 
 -- putbyte ( NUM ) ;    ID ( ) ;    return NUM ;

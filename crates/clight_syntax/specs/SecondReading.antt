@@ -6,7 +6,7 @@ use Rattle.clight_syntax.specs.declared.second_items.SmallStmt.{SmallStmt}
 use Rattle.clight_syntax.specs.declared.second_items.SmallStmt.TheVariants.{Put, Call, Return}
 use Rattle.clight_syntax.specs.declared.second_items.Item.{Item}
 use Rattle.clight_syntax.specs.Tokens.{Token, Word, Num, Sign, Reads, spelling, IsBlank, IsWordlike}
-use Rattle.clight_syntax.specs.FirstForm.{IsInt}
+use Rattle.clight_syntax.specs.Statements.{IsInt}
 use Rattle.clight_syntax.specs.SecondForm.{IsIdentifier, reserved_words, statements_tokens, EndsReturning}
 
 -- ( ) ; { }

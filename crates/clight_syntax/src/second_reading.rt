@@ -3,7 +3,7 @@ ghost use Rattle.std.specs.Prelude.{◌≡◌, ◌↔◌, ◌++◌, ◌∷◌, [
 ghost use Rattle.clight_syntax.specs.declared.second_items.SmallStmt.{SmallStmt};
 ghost use Rattle.clight_syntax.specs.declared.second_items.Item.{Item};
 ghost use Rattle.clight_syntax.specs.Tokens.{Token, Word, Num, Sign};
-ghost use Rattle.clight_syntax.specs.FirstForm.{put_tokens, return_tokens};
+ghost use Rattle.clight_syntax.specs.Statements.{put_tokens, return_tokens};
 ghost use Rattle.clight_syntax.specs.SecondForm.{reserved_words, statement_tokens, statements_tokens, body_tokens, static_tokens, item_tokens, items_tokens};
 ghost use Rattle.clight_syntax.specs.SecondReading.{seen, head_tokens, Lacks, IsFree, IsStep, IsFreeBody, LacksBody, IsFreeIfAny, IsFreeItem};
 
