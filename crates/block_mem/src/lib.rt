@@ -15,5 +15,5 @@ mod tests;
 mod value;
 
 pub use memory::Memory;
-pub use operator::{Element, Op};
+pub use operator::{Element, Op, on_word, on_words};
 pub use value::{BlockName, Byte, Value, Width};

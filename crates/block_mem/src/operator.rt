@@ -113,7 +113,7 @@ pub(crate) fn signed_byte(byte: u8) -> u32
 }
 
 /// The value of an operator with one operand on an integer, where it has one.
-pub(crate) fn on_word(op: Op, a: u32) -> Option<u32>
+pub fn on_word(op: Op, a: u32) -> Option<u32>
     ensures { result ≡ on_word op a }
 {
     match op {
@@ -133,7 +133,7 @@ fn has_no_quotient(a: u32, b: u32) -> bool
 }
 
 /// The value of an operator with two operands on integers, where it has one.
-pub(crate) fn on_words(op: Op, a: u32, b: u32) -> Option<u32>
+pub fn on_words(op: Op, a: u32, b: u32) -> Option<u32>
     ensures { result ≡ on_words op a b }
 {
     match op {

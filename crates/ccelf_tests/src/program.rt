@@ -1,4 +1,6 @@
 // The whole program, over files, an input and an output in memory.
+ghost use Rattle.std.specs.Prelude.{◌<◌};
+
 use cc_base::{Bytes, Calls, Files, GetFault, MemFiles, MemSink, MemSource};
 use ccelf_build::{Status, ccelf};
 use std::alloc::{AllocError, Global};
@@ -319,7 +321,9 @@ fn an_image_by_hand_runs(rt: HostRuntime) -> Result<(), Fail> {
 const CHAIN: u32 = 4096;
 
 // The text of one unit of the chain: its function calls that of the next, and the last emits a byte.
-fn link_of_chain(alloc: Global, number: u32) -> Result<String, AllocError> {
+fn link_of_chain(alloc: Global, number: u32) -> Result<String, AllocError>
+    requires { number < 4096 }
+{
     if number + 1 == CHAIN {
         return format!(in alloc; "int f{number}(void) {{ putbyte(88); return 0; }}");
     }

@@ -1,0 +1,46 @@
+-- Sizes and alignments of types (System V ABI, i386 supplement).
+use Rattle.std.specs.Prelude.{ℕ, ◌*◌, zero, suc, ◌≡◌, ◌<◌, ◌≤◌, List, [], ◌∷◌, Option, Some, None}
+use Rattle.std.specs.Option.{option_map}
+use Rattle.clight_types.specs.declared.layout.Layout.{Layout}
+use Rattle.clight_types.specs.declared.layout.Size.{Size}
+use Rattle.clight_types.specs.declared.layout.Size.TheVariants as size
+use Rattle.clight_types.specs.Types.{Derived}
+use Rattle.clight_types.specs.Widths.{largest}
+use Rattle.clight_types.specs.Structs.{base_size, base_align}
+
+-- a pointer has four bytes and stands at a multiple of four
+abbrev pub starred : ℕ → Option ℕ → Option ℕ
+starred zero n = n
+starred (suc k) n = Some 4
+
+-- how many elements these lengths make in all
+abbrev pub count_of : List (Option ℕ) → Option ℕ
+count_of [] = Some 1
+count_of (None ∷ ls) = None
+count_of (Some n ∷ ls) = option_map (λ m. n * m) (count_of ls)
+
+abbrev pub times : Option ℕ → Option ℕ → Option ℕ
+times (Some n) (Some m) = Some (n * m)
+times (Some n) None = None
+times None m = None
+
+-- the size of a type in bytes, however great; none of `void`, of an array of unknown length, and of a struct whose
+-- definition has not ended
+abbrev pub size_of : List (Option Layout) → Derived → Option ℕ
+size_of structs t = starred t.pointers (times (count_of t.lengths) (starred t.stars (base_size structs t.base)))
+
+-- an array stands where its elements do
+abbrev pub align_of : List (Option Layout) → Derived → Option ℕ
+align_of structs t = starred t.pointers (starred t.stars (base_align structs t.base))
+
+-- no length is 0
+abbrev pub HasElements : List (Option ℕ) → Type 0
+HasElements [] = Unit {0}
+HasElements (None ∷ ls) = HasElements ls
+HasElements (Some n ∷ ls) = (0 < n) × HasElements ls
+
+-- a size as it is told: one above the greatest is only told to be so
+abbrev pub IsSize : List (Option Layout) → Derived → Size → Type 0
+IsSize structs t (size.Known n) = (size_of structs t ≡ Some n) × (n ≤ largest)
+IsSize structs t size.TooLarge = HasElements t.lengths → (n : ℕ) × (size_of structs t ≡ Some n) × (largest < n)
+IsSize structs t size.Unknown = size_of structs t ≡ None
