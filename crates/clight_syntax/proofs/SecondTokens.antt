@@ -13,9 +13,8 @@ use Rattle.clight_syntax.specs.Reading.{StopsAt, IsDigit, Spans, Skips, Takes}
 use Rattle.clight_syntax.specs.SecondForm.{IsWordByte, IsIdentifier}
 use Rattle.clight_syntax.specs.declared.second_tokens.Lexeme.{Lexeme}
 use Rattle.clight_syntax.specs.SecondReading.{IsMark, IsProper, IsOf, seen, token_of, BeginsToken, LacksToken}
-use Rattle.clight_syntax.proofs.Spans.{spans_same, skips_takes, takes_skips, decimal_digits, decimal_stops}
+use Rattle.clight_syntax.proofs.Spans.{spans_same, skips_takes, takes_skips, decimal_digits, decimal_stops, blanks_all, all_blanks}
 use Rattle.clight_syntax.proofs.Steps.{begun, reads_same}
-use Rattle.clight_syntax.proofs.Whole.{blanks_all, all_blanks}
 
 word_no_blank : (x : ℕ) → IsWordByte x → ¬ IsBlank x
 word_no_blank x w b = grind arith

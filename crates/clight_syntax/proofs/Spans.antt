@@ -1,5 +1,5 @@
 -- The longest front of blanks, or of digits, is one.
-use Rattle.std.proofs.Common.{◌≡◌, ℕ, ◌<◌, ◌≤◌, zero, suc, List, [], ◌∷◌, ◌++◌, length, take, drop, get_or, refl, sym, ◌∙◌, ap, subst, arith, drop-cons, inl, inr, true, false, not, ◌||◌}
+use Rattle.std.proofs.Common.{◌≡◌, ℕ, ◌<◌, ◌≤◌, zero, suc, List, [], ◌∷◌, ◌++◌, length, take, drop, get_or, refl, sym, ◌∙◌, ap, subst, arith, drop-cons, append-nil, inl, inr, true, false, not, ◌||◌}
 use Rattle.std.specs.Prelude.{◌==◌}
 use Rattle.std.specs.List.{All, AllByRecursion}
 use Rattle.std.specs.Int.{IsInRange}
@@ -9,9 +9,9 @@ use Rattle.std.proofs.lemmas.List.Elements.{recursion_from_All, All-head, All-fr
 use Rattle.std.proofs.lemmas.Str.Parse.{IsNumeralModel, numerals_by_value, tells_by_index}
 use Rattle.std.proofs.lemmas.Fmt.{digits_decimal, decimal_nonempty, decimal_injective}
 use Rattle.std.specs.Str.Parse.{digits_value}
-use Rattle.clight_syntax.specs.Tokens.{IsBlank, BeginsBlank}
+use Rattle.clight_syntax.specs.Tokens.{IsBlank}
 use Rattle.clight_syntax.specs.Statements.{IsInt}
-use Rattle.clight_syntax.specs.Reading.{StopsAt, IsDigit, Spans, Skips, is_solid, Takes}
+use Rattle.clight_syntax.specs.Reading.{StopsAt, IsDigit, Spans, Skips, Takes}
 
 stop_cons : (P : ℕ → Type 0) (x : ℕ) (rest more : List ℕ) → rest ≡ x ∷ more → StopsAt P rest → ¬ P x
 stop_cons P x rest more e h = let Q : List ℕ → Type 0 = StopsAt P in subst Q e h
@@ -71,3 +71,11 @@ digits_stop (x ∷ ds) rest l a = digit_no_blank x (All-head IsDigit x ds a)
 
 pub decimal_stops : (n : ℕ) (rest : List ℕ) → IsInt n → StopsAt IsBlank (decimal n ++ rest)
 decimal_stops n rest l = digits_stop (decimal n) rest (decimal_nonempty n (omega arith)) (decimal_digits n l)
+
+-- nothing but blanks
+pub blanks_all : {text left : List ℕ} → Skips text left → length left ≡ 0 → All IsBlank text
+blanks_all {left = []} k e = let P : List ℕ → Type 0 = All IsBlank in subst P (sym (k.spans.whole ∙ append-nil k.gap)) k.spans.all
+blanks_all {left = x ∷ left} k e = absurd (omega arith)
+
+pub all_blanks : {text left : List ℕ} → Skips text left → All IsBlank text → length left ≡ 0
+all_blanks {text = text} k a = ap length (spans_same IsBlank text k.spans (record { whole = sym (append-nil text); all = a; stops = tt })).1
