@@ -1,0 +1,9 @@
+pub mod Again
+pub mod Rows
+pub mod ExpressionsAgain
+pub mod StatementsAgain
+pub mod DeclarationsAgain
+pub mod NumbersAgain
+pub mod BytesAgain
+pub mod LiteralsAgain
+pub mod CutAgain

@@ -1,0 +1,17 @@
+-- The canonical tokens where they stand in the canonical text.
+use Rattle.std.specs.Prelude.{◌≡◌, ℕ, ◌+◌, ◌<◌, List, [], ◌∷◌, length, drop}
+use Rattle.std.specs.List.{All}
+use Rattle.clight_text.specs.Lexical.{IsNumber, element_value, string_value}
+use Rattle.clight_text.specs.declared.kind.Kind.TheVariants as k
+use Rattle.clight_text.specs.Grammar.{Symbol}
+
+-- the tokens with single spaces between them, the first at this place
+abbrev pub placed : ℕ → List Symbol → List Symbol
+placed at [] = []
+placed at (x ∷ xs) = record { kind = x.kind; at = at; text = x.text } ∷ placed (at + length x.text + 1) xs
+
+-- what the literals of a text are: numbers within their range, and bytes
+pub record IsLexeme (x : Symbol) : Type 0 where
+  pub number : x.kind ≡ k.Num → IsNumber x.text
+  pub character : x.kind ≡ k.Char → element_value (drop 1 x.text) < 256
+  pub string : x.kind ≡ k.Str → All (λ byte. byte < 256) (string_value x.text)

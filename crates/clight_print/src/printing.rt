@@ -1,0 +1,133 @@
+// The canonical text of a tree.
+ghost use Rattle.std.specs.Prelude.{◌≡◌, IfOk};
+ghost use Rattle.clight_print.specs.Canonical.{canonical_text};
+
+use crate::externals::put_tree;
+use crate::pieces::Pieces;
+use crate::writing::write_spaced;
+use cc_base::Text;
+use clight_text::Tree;
+use std::alloc::{AllocError, Global};
+
+/// The canonical text of a tree, in time and memory linear in that text: its canonical tokens with single spaces between
+/// them, and a newline. Only want of memory keeps it from coming.
+pub fn print(alloc: Global, tree: &Tree) -> Result<Text, AllocError>
+    ensures { IfOk result (λ text. text ≡ canonical_text tree.now) }
+{
+    let mut pieces = Pieces::new(alloc);
+    put_tree(&mut pieces, tree.as_slice())?;
+    let mut text = Vec::new(alloc);
+    write_spaced(&mut text, pieces.as_slice())?;
+    text.push(b'\n')?;
+    Ok(Text::from_vec(text))
+}
+
+#[cfg(test)]
+mod tests {
+    use super::*;
+    use clight_parser::parse;
+
+    // The canonical text of a text, or nothing where it is no unit's text or memory fails.
+    fn printed(alloc: Global, text: &[u8]) -> Option<Text> {
+        let tree = parse(alloc, text).ok()?;
+        print(alloc, &tree).ok()
+    }
+
+    #[test]
+    fn prints_each_construct(rt: HostRuntime) -> Result<(), AllocError> {
+        let table: [(&[u8], &[u8]); 24] = [
+            (b"", b"\n"),
+            (
+                b"int main(){return 7;}",
+                b"int main ( void ) { return 7 ; }\n",
+            ),
+            (b"signed a;signed int b;", b"int a ; int b ;\n"),
+            (b"signed char a;unsigned b;", b"char a ; unsigned int b ;\n"),
+            (b"unsigned char a,*b;", b"unsigned char a , * b ;\n"),
+            (
+                b"const void*p;extern char c;",
+                b"const void * p ; extern char c ;\n",
+            ),
+            (
+                b"static struct s a[2][3];",
+                b"static struct s a [ 2 ] [ 3 ] ;\n",
+            ),
+            (b"extern int a[];", b"extern int a [ ] ;\n"),
+            (b"int a[]={1,2,};", b"int a [ ] = { 1 , 2 } ;\n"),
+            (
+                b"int a[]={{1},{2,},};",
+                b"int a [ ] = { { 1 } , { 2 } } ;\n",
+            ),
+            (
+                b"char a[3]=\"a\\n\\\"\";",
+                b"char a [ 3 ] = \"\\x61\\x0a\\x22\" ;\n",
+            ),
+            (
+                b"int a=0x1F+017+0+7U+4294967295u+2147483648u;",
+                b"int a = ( ( ( ( 31 + 15 ) + 0 ) + 7u ) + 4294967295u ) + 2147483648u ;\n",
+            ),
+            (b"int a='a'-'\\377';", b"int a = '\\x61' - '\\xff' ;\n"),
+            (b"int a=((b));", b"int a = b ;\n"),
+            (b"int a=- -b*!c;", b"int a = ( - ( - b ) ) * ( ! c ) ;\n"),
+            (b"int a=*b[1].c->d;", b"int a = * b [ 1 ] . c -> d ;\n"),
+            (b"int a=(*b)[c+1].d;", b"int a = ( * b ) [ c + 1 ] . d ;\n"),
+            (
+                b"int a=(int*)b+sizeof(char)-sizeof c;",
+                b"int a = ( ( ( int * ) b ) + ( sizeof ( char ) ) ) - ( sizeof c ) ;\n",
+            ),
+            (
+                b"int a=sizeof((int)b);",
+                b"int a = sizeof ( ( int ) b ) ;\n",
+            ),
+            (b"int a=~(b|c);", b"int a = ~ ( b | c ) ;\n"),
+            (
+                b"int f(int,char*p);void g(struct s*q){}",
+                b"int f ( int , char * p ) ; void g ( struct s * q ) { }\n",
+            ),
+            (
+                b"struct s{int a,*b[2];const char c;};",
+                b"struct s { int a , * b [ 2 ] ; const char c ; } ;\n",
+            ),
+            (
+                b"void f(){register int i=1,j;int k[2];;{}f();a=f(1,b);-a=2;(a+b)=3;(a)=4;}",
+                b"void f ( void ) { register int i = 1 , j ; int k [ 2 ] ; ; { } f ( ) ; a = f ( 1 , b ) ; - a = 2 ; ( a + b ) = 3 ; a = 4 ; }\n",
+            ),
+            (
+                b"void f(){if(a){}else if(b){;}else{return;}while(1){break;}do{continue;}while(a);for(;;){}for(a=0;a<1;f()){}}",
+                b"void f ( void ) { if ( a ) { } else if ( b ) { ; } else { return ; } while ( 1 ) { break ; } do { continue ; } while ( a ) ; for ( ; ; ) { } for ( a = 0 ; a < 1 ; f ( ) ) { } }\n",
+            ),
+        ];
+        for (text, expected) in table {
+            let found = printed(rt.alloc(), text);
+            assert!(rt; matches!(&found, Some(found) if found.as_slice() == expected));
+        }
+        Ok(())
+    }
+
+    #[test]
+    fn what_is_printed_reads_as_the_same_tree(rt: HostRuntime) -> Result<(), AllocError> {
+        let table: [&[u8]; 12] = [
+            b"struct s { int a, *b[2]; const char c; struct s *d; }; struct s t;",
+            b"int x, *y = 0, z[] = { 1, 2, }, w[2][3], v[][4] = {{1}, {2}};",
+            b"static unsigned char s[4] = \"ab\"; extern signed int e; const unsigned u = 1u;",
+            b"void f(); int g(void); char *h(int, unsigned *p, struct s *); signed char k(const char *);",
+            b"static int f(int a, int *b) { register int i = 1, j; int k[2], *l; const int m = 3; }",
+            b"void f(void) { ; { } { ; } g(); g(1, a + 2); x = 1; x = g(); x = g(1); *p = a; p->q.r[1] = h; }",
+            b"void f(void) { if (a) { } if (a) { } else { } if (a) { } else if (b) { } else if (c) { } else { } }",
+            b"void f(void) { for (;;) { } for (i = 0; i < 9; i = i + 1) { } for (g(); ; g()) { } return a; }",
+            b"int x = a || b && c | d ^ e & f == g != h < i > j <= k >= l << m >> n + o - p * q / r % s;",
+            b"int x = - ~ ! * & a + (int) a + (char *) b - (struct s * *) (c) + sizeof (int *) + sizeof (a)[1];",
+            b"int x = 'a' + '\\n' + '\\x41' + '\\101' + 010 + 0x1F + 7u + sizeof - a + sizeof sizeof (int);",
+            b"void v(void, int); void w(void *); void x(const void); void y(void a);",
+        ];
+        for text in table {
+            let once = printed(rt.alloc(), text);
+            assert!(rt; once.is_some());
+            if let Some(once) = once {
+                let again = printed(rt.alloc(), once.as_slice());
+                assert!(rt; matches!(&again, Some(again) if again.as_slice() == once.as_slice()));
+            }
+        }
+        Ok(())
+    }
+}
