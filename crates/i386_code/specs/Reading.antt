@@ -161,3 +161,7 @@ opened (Some (WithOperand row)) = Next λ modrm. begun (head_at row (modrm / 8 %
 
 abbrev pub instruction : Reader
 instruction = Next λ opcode. if opcode == 0x0f then (Next λ second. opened (long_row_at second)) else opened (row_at opcode)
+
+-- What the bytes begin with. That it is what the table spells, and nothing else, is what the contract of `decode` says.
+unfoldable pub decoded : List ℕ → Decoded
+decoded bytes = run instruction 0 bytes

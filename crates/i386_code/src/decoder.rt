@@ -5,7 +5,7 @@ ghost use Rattle.i386_code.specs.Proper.{Proper};
 ghost use Rattle.i386_code.specs.declared.instr.Instr.{Instr};
 ghost use Rattle.i386_code.specs.Spelling.{IsAtFront, IsCutShort, IsNoInstruction, HasShortLength, NoneBeginsAnother, canonical};
 ghost use Rattle.i386_code.specs.declared.rows.Row.TheVariants.{WithOperand};
-ghost use Rattle.i386_code.specs.Reading.{run, instr_of, finish, opened, instruction, is_byte_operand, plain_instr, word_instr, byte_instr};
+ghost use Rattle.i386_code.specs.Reading.{run, decoded, instr_of, finish, opened, instruction, is_byte_operand, plain_instr, word_instr, byte_instr};
 
 use crate::encoder::encode;
 use crate::instr::{Decoded, Instr, Rm};
@@ -188,6 +188,8 @@ pub fn decode(bytes: &[u8]) -> Decoded
     ensures short { (result ≡ Decoded.Short) ↔ IsCutShort bytes.now }
     ensures unknown { (result ≡ Decoded.Unknown) ↔ IsNoInstruction bytes.now }
     ensures length { HasShortLength result }
+    // This answer as a function of the bytes, for definitions of what runs them.
+    ensures value { result ≡ decoded bytes.now }
 {
     read_instruction(bytes)
 }

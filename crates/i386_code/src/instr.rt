@@ -1,6 +1,6 @@
 //! Instructions and what they are made of: the rows of the table, as a type.
 
-ghost use Rattle.std.specs.Prelude.{◌≡◌};
+ghost use Rattle.std.specs.Prelude.{◌≡◌, ◌<◌};
 
 /// A general register of 32 bits. The first four have a low byte of their own: al, cl, dl and bl.
 #[derive(Clone, Copy, Debug, PartialEq, Eq)]
@@ -20,7 +20,8 @@ impl Reg {
 
     /// The number by which ModRM, SIB and opcodes name the register, 0 to 7.
     pub fn number(self) -> u8
-        ensures { result ≡ number_of self }
+        ensures value { result ≡ number_of self }
+        ensures small { result < 8 }
     {
         self as u8
     }

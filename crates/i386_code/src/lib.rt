@@ -21,4 +21,5 @@ pub use code::Code;
 pub use decoder::{decode, decode_encoded, spellings_end};
 pub use encoder::encode;
 pub use instr::{Address, AluOp, Cond, Decoded, Instr, Reg, Rm, Scaled, ShiftOp};
+pub use operand::sign_extended;
 pub use proper::is_proper;

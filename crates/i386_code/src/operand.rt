@@ -26,7 +26,7 @@ pub fn word_at(bytes: &[u8]) -> Option<u32>
 }
 
 /// A byte as a word, its sign extended.
-fn extended(byte: u8) -> u32
+pub fn sign_extended(byte: u8) -> u32
     ensures { result ≡ sign_extended byte }
 {
     if byte < 0x80 {
@@ -42,7 +42,7 @@ fn displacement_at(width: Width, bytes: &[u8]) -> Option<(u32, u8)>
 {
     match (width, bytes) {
         (Width::Absent, _) => Some((0, 0)),
-        (Width::Byte, [byte, ..]) => Some((extended(*byte), 1)),
+        (Width::Byte, [byte, ..]) => Some((sign_extended(*byte), 1)),
         (Width::Byte, []) => None,
         (Width::Word, _) => Some((word_at(bytes)?, 4)),
     }

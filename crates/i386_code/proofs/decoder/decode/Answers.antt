@@ -3,6 +3,7 @@ use Rattle.std.proofs.Common.{◌∙◌, sym, arith}
 use Rattle.i386_code.proofs.Readers.{AreBytes}
 use Rattle.i386_code.proofs.Decoding.{at_front, from_front, cut_short, from_cut_short, no_instruction, from_no_instruction}
 use Rattle.i386_code.proofs.Lengths.{answer_length}
+use Rattle.i386_code.specs.Reading.{decoded}
 use Rattle.i386_code.proofs.decoder.decode.Goals as goal
 
 pub returns-clause-found : goal.returns-clause-found
@@ -24,3 +25,7 @@ pub returns-clause-length : goal.returns-clause-length
 returns-clause-length c =
     let fit : AreBytes c.args.bytes.now = λ i. omega (arith, c.type_inv.bytes i) in
     answer_length c.args.bytes.now fit c.read_instruction.result (sym c.read_instruction.ensures)
+
+pub returns-clause-value : goal.returns-clause-value
+unfolding decoded
+returns-clause-value c = c.read_instruction.ensures
