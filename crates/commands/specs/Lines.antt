@@ -22,6 +22,8 @@ abbrev pub cause_words : Cause → List ℕ
 cause_words cause.Fetch = codes "fetch"
 cause_words cause.Decode = codes "decode"
 cause_words (cause.Access at) = codes "access " ++ address at
+cause_words cause.Divide = codes "divide"
+cause_words cause.Flags = codes "flags"
 cause_words cause.System = codes "system"
 
 -- the words of an answer, or nothing where there is no line

@@ -1,7 +1,11 @@
 // Commands over files in memory: that the calls succeed, and what they answer.
+ghost use Rattle.std.specs.Prelude.{◌^◌, ◌<◌, ◌≤◌, length, IfOk};
+ghost use Rattle.elf_file.specs.Image.{WellFormedImage};
+
 use crate::{Answer, Status, line, perform};
 use cc_base::{Bytes, Calls, Files, MemFiles, MemSink, MemSource};
 use command_words::read;
+use elf_file::{ImageParts, SegmentPart, SegmentParts, write_image};
 use std::alloc::{AllocError, Global};
 use std::test::Fail;
 
@@ -98,6 +102,93 @@ fn units_run(rt: HostRuntime) -> Result<(), Fail> {
             "{words}"
         );
         assert_eq!(rt; output.bytes(), bytes, "{words}");
+    }
+    Ok(())
+}
+
+// An image of this code at 0x08049000, with zeros behind it.
+fn image_of(alloc: Global, code: &[u8]) -> Result<ImageParts, AllocError>
+    requires { length code.now ≤ 20 }
+    ensures { IfOk result WellFormedImage }
+{
+    let mut segments = SegmentParts::new(alloc);
+    segments.push(SegmentPart {
+        start: 0x0804_9000,
+        flags: 5,
+        size: 20,
+        bytes: Bytes::from_slice(alloc, code)?,
+    })?;
+    Ok(ImageParts {
+        entry: 0x0804_9000,
+        segments,
+    })
+}
+
+#[test]
+fn an_image_runs_until_it_is_stuck(rt: HostRuntime) -> Result<(), Fail> {
+    let alloc = rt.alloc();
+    let rows: [(&[u8], &str, Status, &str); 8] = [
+        // call; mov ebx,eax; mov eax,1; int 0x80; and there mov eax,7; ret
+        (
+            b"\xe8\x09\0\0\0\x89\xc3\xb8\x01\0\0\0\xcd\x80\xb8\x07\0\0\0\xc3",
+            "run 6 image",
+            Status::Done,
+            "exit 7\n",
+        ),
+        (b"\xeb\xfe", "run 4000000 image", Status::Spent, "spent\n"),
+        // mov [0x08049000],1
+        (
+            b"\xc7\x05\0\x90\x04\x08\x01\0\0\0",
+            "run 9 image",
+            Status::Stuck,
+            "stuck 08049000 access 08049000\n",
+        ),
+        // imul eax,eax; jl
+        (
+            b"\x0f\xaf\xc0\x0f\x8c\0\0\0\0",
+            "run 9 image",
+            Status::Stuck,
+            "stuck 08049003 flags\n",
+        ),
+        (
+            b"\xf7\xf1",
+            "run 9 image",
+            Status::Stuck,
+            "stuck 08049000 divide\n",
+        ),
+        (
+            b"\xf7\xc0",
+            "run 9 image",
+            Status::Stuck,
+            "stuck 08049000 decode\n",
+        ),
+        // jmp to the end of the code
+        (
+            b"\xeb\x12",
+            "run 9 image",
+            Status::Stuck,
+            "stuck 08049014 fetch\n",
+        ),
+        (
+            b"\xcd\x80",
+            "run 9 image",
+            Status::Stuck,
+            "stuck 08049000 system\n",
+        ),
+    ];
+    for (code, words, status, report) in rows {
+        assert!(rt; code.len() <= 20);
+        let file = write_image(alloc, &image_of(alloc, code)?)?;
+        let mut files = MemFiles::new(alloc, Calls::new(alloc));
+        files.put(alloc, "image", file.as_slice())?;
+        let mut output = MemSink::new(alloc, Calls::new(alloc));
+        let answer = answer_of(alloc, words, &mut files, &mut output)?;
+        assert_eq!(rt; answer.status(), status, "{code:?}");
+        assert_eq!(rt;
+            line(alloc, &answer)?.as_slice(),
+            report.as_bytes(),
+            "{code:?}"
+        );
     }
     Ok(())
 }

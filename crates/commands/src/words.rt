@@ -45,6 +45,8 @@ fn put_cause(line: &mut Text, cause: Cause) -> Result<(), AllocError>
             line.extend(b"access ")?;
             put_address(line, u64::from(address))
         }
+        Cause::Divide => line.extend(b"divide"),
+        Cause::Flags => line.extend(b"flags"),
         Cause::System => line.extend(b"system"),
     }
 }

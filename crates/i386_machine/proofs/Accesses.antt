@@ -6,7 +6,7 @@ use Rattle.std.proofs.lemmas.Bool.{cond-true, cond-false}
 use Rattle.cc_base.specs.Words.{join, byte_of}
 use Rattle.i386_machine.specs.declared.memory.Piece.{Piece}
 use Rattle.i386_machine.specs.Pieces.{region_of, HasNone, HasAt, EndsWithin}
-use Rattle.i386_machine.specs.Regions.{fetch, Shape, Region, shape_of, shapes, spans, readable, writable, word_at, byte_at, store_word, store_byte, Disjoint}
+use Rattle.i386_machine.specs.Regions.{fetch, Shape, Region, shape_of, shapes, spans, readable, writable, word_at, held_word_at, byte_at, store_word, store_byte, Disjoint}
 use Rattle.i386_machine.specs.Laws.{spans_facts}
 use Rattle.i386_machine.specs.At.{readable_one, readable_none, writable_none, writable_one, peek_one, peek_word_one, poke_one, poke_word_one, shapes-set, fetch_none, fetch_one}
 
@@ -23,6 +23,9 @@ none_at (p ∷ ps) a n h (suc i) r e = none_at ps a n (λ k l d. h (suc k) (omeg
 module _ (ps : List Piece) (a : ℕ) where
   pub load_word_none : HasNone ps a 4 → word_at (map region_of ps) a ≡ None
   load_word_none h = cond-false (readable (shapes (map region_of ps)) a 4) _ _ (readable_none a 4 (omega arith) (map region_of ps) (none_at ps a 4 h))
+
+  pub held_word_none : HasNone ps a 4 → held_word_at (map region_of ps) a ≡ None
+  held_word_none h = cond-false (writable (shapes (map region_of ps)) a 4) _ _ (writable_none a 4 (omega arith) (map region_of ps) (none_at ps a 4 h))
 
   pub load_byte_none : HasNone ps a 1 → byte_at (map region_of ps) a ≡ None
   load_byte_none h = cond-false (readable (shapes (map region_of ps)) a 1) _ _ (readable_none a 1 (omega arith) (map region_of ps) (none_at ps a 1 h))
@@ -47,6 +50,17 @@ module _ (ps : List Piece) (a : ℕ) where
     load_word_at h =
         let at = region_at ps i p h.within e in
         cond-true (readable (shapes (map region_of ps)) a 4) _ _ (readable_one a 4 (omega arith) (map region_of ps) i (region_of p) at (spans_at 4 h))
+        ∙ ap (λ (x : ℕ). Some x) (peek_word_one (map region_of ps) i (region_of p) a disjoint at (spans_at 4 h))
+
+    pub held_word_refused : HasAt ps a 4 i → p.writable ≡ false → held_word_at (map region_of ps) a ≡ None
+    held_word_refused h cannot =
+        let at = region_at ps i p h.within e in
+        cond-false (writable (shapes (map region_of ps)) a 4) _ _ (writable_one a 4 (omega arith) (map region_of ps) i (region_of p) disjoint at (spans_at 4 h) ∙ cannot)
+
+    pub held_word_found : HasAt ps a 4 i → p.writable ≡ true → held_word_at (map region_of ps) a ≡ Some (join (get_or p.bytes.items (a - p.base) 0) (get_or p.bytes.items (a - p.base + 1) 0) (get_or p.bytes.items (a - p.base + 2) 0) (get_or p.bytes.items (a - p.base + 3) 0))
+    held_word_found h can =
+        let at = region_at ps i p h.within e in
+        cond-true (writable (shapes (map region_of ps)) a 4) _ _ (writable_one a 4 (omega arith) (map region_of ps) i (region_of p) disjoint at (spans_at 4 h) ∙ can)
         ∙ ap (λ (x : ℕ). Some x) (peek_word_one (map region_of ps) i (region_of p) a disjoint at (spans_at 4 h))
 
     pub load_byte_at : HasAt ps a 1 i → byte_at (map region_of ps) a ≡ Some (get_or p.bytes.items (a - p.base) 0)

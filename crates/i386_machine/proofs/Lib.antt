@@ -1,3 +1,4 @@
 pub mod Accesses
-pub mod Spellings
 pub mod GoesOn
+pub mod Scaling
+pub mod NotAsked

@@ -2,9 +2,8 @@ pub mod Regions
 pub mod Laws
 pub mod At
 pub mod Pieces
-pub mod Instructions
-pub mod Calls
 pub mod Machine
+pub mod Operands
 pub mod Step
 pub mod Pending
 pub mod StepLaws

@@ -1,16 +1,19 @@
 -- The machine: what it holds, and how it starts.
-use Rattle.std.specs.Prelude.{ℕ, ◌-◌, List, [], ◌∷◌, ◌++◌, length, true, false, Bool, get_or, set}
-use Rattle.i386_machine.specs.declared.instruction.Reg.{Reg}
+use Rattle.std.specs.Prelude.{ℕ, ◌-◌, Option, None, List, [], ◌∷◌, ◌++◌, length, true, false, Bool, get_or, set}
+use Rattle.i386_code.specs.declared.instr.Reg.{Reg}
+use Rattle.i386_code.specs.Fields.{number_of}
+use Rattle.i386_arith.specs.declared.flags.Flags.{Flags}
 use Rattle.i386_machine.specs.declared.event.Standing.{Standing}
 use Rattle.i386_machine.specs.declared.event.Standing.TheVariants.{Running}
-use Rattle.i386_machine.specs.Instructions.{number_of}
 use Rattle.i386_machine.specs.Regions.{Region, zeros}
 
--- the regions of memory, the eight registers by their numbers, the address of the next instruction, and whether it runs
+-- The regions of memory, the eight registers by their numbers, the address of the next instruction, the flags or None where
+-- they are unknown, and whether it runs.
 pub record State : Type 0 where
   pub regions : List Region
   pub registers : List ℕ
   pub eip : ℕ
+  pub flags : Option Flags
   pub standing : Standing
 
 -- the word in a register
@@ -29,9 +32,9 @@ stack_region size = record { base = 3221225472 - size; bytes = zeros size; writa
 abbrev pub first_registers : List ℕ
 first_registers = 0 ∷ 0 ∷ 0 ∷ 0 ∷ 3221225456 ∷ 0 ∷ 0 ∷ 0 ∷ []
 
--- a machine that is about to run from an address
+-- a machine that is about to run from an address; its flags are unknown
 abbrev pub started : ℕ → List Region → State
-started entry regions = record { regions = regions; registers = first_registers; eip = entry; standing = Running }
+started entry regions = record { regions = regions; registers = first_registers; eip = entry; flags = None; standing = Running }
 
 -- a region that begins with these bytes and is zero after them
 abbrev pub filled : ℕ → List ℕ → ℕ → Bool → Bool → Region

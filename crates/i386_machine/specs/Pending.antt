@@ -1,6 +1,9 @@
 -- What the machine's code answers of a step before the outside has a part in it.
-use Rattle.std.specs.Prelude.{◌≡◌, ℕ, Bool, true, false, ◌&&◌, ◌==◌}
-use Rattle.i386_machine.specs.declared.instruction.Reg.TheVariants.{Eax, Ecx, Edx, Ebx}
+use Rattle.std.specs.Prelude.{◌≡◌, Bool, true, false, ◌&&◌, ◌==◌, Result, Ok, Err}
+use Rattle.i386_code.specs.declared.instr.Reg.TheVariants.{Eax, Ecx, Edx, Ebx}
+use Rattle.i386_code.specs.declared.instr.Instr.{Instr}
+use Rattle.i386_code.specs.declared.instr.Instr.TheVariants.{Interrupt}
+use Rattle.i386_machine.specs.declared.event.Cause.{Cause}
 use Rattle.i386_machine.specs.declared.event.Standing.{Standing}
 use Rattle.i386_machine.specs.declared.event.Standing.TheVariants as standing
 use Rattle.i386_machine.specs.declared.machine.Pending.{Pending}
@@ -27,9 +30,15 @@ abbrev pub HasPlace : Pending → State → Type 0
 HasPlace pending.Byte m = writable (shapes m.regions) (register m Ecx) 1 ≡ true
 HasPlace _ m = Unit {0}
 
--- on to an instruction
-abbrev pub gone_to : ℕ → State → State
-gone_to next m = record m { eip = next }
+-- what a write answers, where the machine is now in this state
+abbrev pub written : Result (Unit {0}) Cause → State → Result State Cause
+written (Ok _) now = Ok now
+written (Err cause) now = Err cause
+
+-- `int 0x80`
+abbrev pub is_system_call : Instr → Bool
+is_system_call (Interrupt number) = number == 128
+is_system_call _ = false
 
 -- whether it takes further steps
 abbrev pub runs : Standing → Bool

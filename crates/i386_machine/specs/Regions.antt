@@ -71,6 +71,10 @@ byte_at m a = cond (readable (shapes m) a 1) (Some (peek m a)) None
 abbrev pub word_at : List Region → ℕ → Option ℕ
 word_at m a = cond (readable (shapes m) a 4) (Some (peek_word m a)) None
 
+-- the word at an address that may be written too
+abbrev pub held_word_at : List Region → ℕ → Option ℕ
+held_word_at m a = cond (writable (shapes m) a 4) (Some (peek_word m a)) None
+
 abbrev pub store_byte : List Region → ℕ → ℕ → Option (List Region)
 store_byte m a w = cond (writable (shapes m) a 1) (Some (poke m a (byte_of w 0))) None
 

@@ -1,18 +1,33 @@
--- One step of the machine: the instruction at eip and its effect (Intel SDM volume 2, chapters 3 and 4), or the system call (Linux, int 0x80), or the cause for which there is no step.
-use Rattle.std.specs.Prelude.{nat_lt, ℕ, ◌+◌, ◌%◌, List, Option, Some, None, option_map, Bool, true, false, ◌&&◌, ◌==◌, if◌then◌else◌}
+-- One step (Intel SDM volume 2, chapters 3 to 5, under each instruction).
+use Rattle.std.specs.Prelude.{ℕ, ◌*◌, ◌%◌, ◌^◌, Bool, true, false, List, Option, Some, None, option_map, Result, Ok, Err, ◌&&◌, ◌==◌, if◌then◌else◌}
+use Rattle.std.specs.Int.{w32, cast_unsigned, from_bool}
 use Rattle.cc_base.specs.Words.{add32, sub32}
-use Rattle.i386_machine.specs.declared.instruction.Reg.TheVariants.{Eax, Ecx, Edx, Ebx, Esp}
-use Rattle.i386_machine.specs.declared.instruction.Instr.{Instr}
-use Rattle.i386_machine.specs.declared.instruction.Instr.TheVariants as instr
+use Rattle.i386_code.specs.declared.instr.Reg.TheVariants.{Eax, Ecx, Edx, Ebx, Esp}
+use Rattle.i386_code.specs.declared.instr.AluOp.{AluOp}
+use Rattle.i386_code.specs.declared.instr.AluOp.TheVariants as alu
+use Rattle.i386_code.specs.declared.instr.Cond.{Cond}
+use Rattle.i386_code.specs.declared.instr.Instr.{Instr}
+use Rattle.i386_code.specs.declared.instr.Instr.TheVariants as instr
+use Rattle.i386_code.specs.declared.instr.Decoded.{Decoded}
+use Rattle.i386_code.specs.declared.instr.Decoded.TheVariants.{Is, Short, Unknown}
+use Rattle.i386_code.specs.Fields.{sign_extended}
+use Rattle.i386_code.specs.Reading.{decoded}
+use Rattle.i386_arith.specs.declared.flags.Flags.{Flags}
+use Rattle.i386_arith.specs.declared.division.Division.{Division}
+use Rattle.i386_arith.specs.Words.{complement, sign_word}
+use Rattle.i386_arith.specs.Operations.{operated, shifted}
+use Rattle.i386_arith.specs.Division.{divided, signed_divided}
+use Rattle.i386_arith.specs.Conditions.{holds}
 use Rattle.i386_machine.specs.declared.event.Cause.{Cause}
 use Rattle.i386_machine.specs.declared.event.Cause.TheVariants as cause
 use Rattle.i386_machine.specs.declared.event.Standing.{Standing}
 use Rattle.i386_machine.specs.declared.event.Standing.TheVariants as standing
 use Rattle.i386_machine.specs.declared.event.Event.{Event}
 use Rattle.i386_machine.specs.declared.event.Event.TheVariants as event
+use Rattle.i386_machine.specs.declared.operand.Place.{Place}
 use Rattle.i386_machine.specs.Regions.{byte_at, word_at, store_word, writable, shapes, fetch, poke}
-use Rattle.i386_machine.specs.Instructions.{decoded}
 use Rattle.i386_machine.specs.Machine.{State, register, with_register}
+use Rattle.i386_machine.specs.Operands.{address_of, place_of, accessed, word_in, held_in, byte_in, byte_room, with_regions, with_word, with_byte}
 
 -- what the next step does, as far as the machine alone decides it
 pub data Doing : Type 0 where
@@ -27,27 +42,68 @@ pub data Doing : Type 0 where
   -- there is no step
   Sticks : Cause → Doing
 
+-- on with what was read; where that has no place there is no step
+abbrev pub given : {A : Type 0} → Result A Cause → (A → Doing) → Doing
+given (Ok x) go = go x
+given (Err cause) go = Sticks cause
+
+-- the state that was written, if there was a place
+abbrev pub goes : Result State Cause → Doing
+goes (Ok m) = Goes m
+goes (Err cause) = Sticks cause
+
 -- on to the next instruction
 abbrev pub past : ℕ → State → State
 past size m = record m { eip = add32 m.eip size }
 
+-- on to the instruction so many bytes further, counted from the end of this one
+abbrev pub jumped : ℕ → State → State
+jumped by m = record m { eip = add32 m.eip by }
+
+abbrev pub with_flags : State → Option Flags → State
+with_flags m flags = record m { flags = flags }
+
 -- a word is stored below the top of the stack, and its place is the top
-abbrev pub pushed : State → ℕ → Option State
+abbrev pub pushed : State → ℕ → Result State Cause
 pushed m word = let top = sub32 (register m Esp) 4 in
-    option_map (λ regions. with_register (record m { regions = regions }) Esp top) (store_word m.regions top word)
+    accessed top (option_map (λ regions. with_register (with_regions m regions) Esp top) (store_word m.regions top word))
 
 -- the word at the top of the stack
-abbrev pub top_word : State → Option ℕ
-top_word m = word_at m.regions (register m Esp)
+abbrev pub top_word : State → Result ℕ Cause
+top_word m = accessed (register m Esp) (word_at m.regions (register m Esp))
 
 -- without the word at the top of the stack
 abbrev pub popped : State → State
 popped m = with_register m Esp (add32 (register m Esp) 4)
 
--- the state, if the access at this address has one
-abbrev pub accessed : ℕ → Option State → Doing
-accessed address None = Sticks (cause.Access address)
-accessed address (Some m) = Goes m
+-- cmp and test set flags and change no place
+abbrev pub only_tests : AluOp → Bool
+only_tests alu.Cmp = true
+only_tests alu.Test = true
+only_tests _ = false
+
+-- An operation on a place and a word. One that changes the place makes a single access, which needs the right to write.
+abbrev pub operates : Bool → AluOp → Place → ℕ → State → Doing
+operates true op place b m = given (word_in m place) λ a. Goes (with_flags m (Some (operated op a b).flags))
+operates false op place b m = given (held_in m place) λ a. goes (with_word (with_flags m (Some (operated op a b).flags)) place (operated op a b).word)
+
+-- the word of a place becomes another
+abbrev pub changed : Place → (ℕ → ℕ) → State → Doing
+changed place f m = given (held_in m place) λ a. goes (with_word m place (f a))
+
+-- the flags are not known afterwards
+abbrev pub unflagged : State → State
+unflagged m = with_flags m None
+
+-- the quotient goes to eax and the remainder to edx
+abbrev pub with_division : Option Division → State → Doing
+with_division None m = Sticks cause.Divide
+with_division (Some d) m = Goes (with_register (with_register (unflagged m) Eax d.quotient) Edx d.remainder)
+
+-- whether a condition holds, which needs known flags
+abbrev pub asked : Cond → Option Flags → Result Bool Cause
+asked cond None = Err cause.Flags
+asked cond (Some flags) = Ok (holds cond flags)
 
 -- the read call asks for a byte where it can be stored, and the write call emits the byte that is there
 abbrev pub read_call : ℕ → Bool → Doing
@@ -66,25 +122,42 @@ system_call m =
     else if register m Eax == 4 && register m Ebx == 1 && register m Edx == 1 then write_call (register m Ecx) (byte_at m.regions (register m Ecx))
     else Sticks cause.System
 
--- a byte as a signed number, as a word
-abbrev pub sign_extended : ℕ → ℕ
-sign_extended byte = if nat_lt byte 128 then byte else byte + 4294967040
-
--- what an instruction does
+-- What an instruction does, in a state whose eip is past it already.
 abbrev pub effect : Instr → State → Doing
-effect (instr.LoadImm to value) m = Goes (with_register (past 5 m) to value)
-effect (instr.Store to from) m = Goes (with_register (past 2 m) to (register m from))
-effect (instr.Lea to scale plus) m = Goes (with_register (past 4 m) to (add32 (register m Esp) (sign_extended plus)))
-effect (instr.Push from) m = accessed (sub32 (register m Esp) 4) (pushed (past 1 m) (register m from))
-effect (instr.Pop to) m = accessed (register m Esp) (option_map (λ word. with_register (popped (past 1 m)) to word) (top_word m))
-effect (instr.Call by) m = let back = add32 m.eip 5 in
-    accessed (sub32 (register m Esp) 4) (option_map (λ (s : State). record s { eip = add32 back by }) (pushed m back))
-effect instr.Ret m = accessed (register m Esp) (option_map (λ word. record (popped m) { eip = word }) (top_word m))
+effect (instr.StoreByte to from) m = goes (with_byte m (place_of m to) (register m from % 256))
+effect (instr.Store to from) m = goes (with_word m (place_of m to) (register m from))
+effect (instr.Load to from) m = given (word_in m (place_of m from)) λ word. Goes (with_register m to word)
+effect (instr.LoadImm to value) m = Goes (with_register m to value)
+effect (instr.StoreImm to value) m = goes (with_word m (place_of m to) value)
+effect (instr.ZeroByte to from) m = given (byte_in m (place_of m from)) λ byte. Goes (with_register m to byte)
+effect (instr.SignByte to from) m = given (byte_in m (place_of m from)) λ byte. Goes (with_register m to (sign_extended byte))
+effect (instr.Lea to from) m = Goes (with_register m to (address_of m from))
+effect (instr.Alu op to from) m = operates (only_tests op) op (place_of m to) (register m from) m
+effect (instr.AluImm op to value) m = operates (only_tests op) op (place_of m to) value m
+effect (instr.AluShort op to value) m = operates (only_tests op) op (place_of m to) (cast_unsigned w32 value) m
+effect (instr.Mul to from) m = given (word_in m (place_of m from)) λ word. Goes (with_register (unflagged m) to ((register m to * word) % 2 ^ 32))
+effect (instr.Not to) m = changed (place_of m to) complement m
+effect (instr.Neg to) m = changed (place_of m to) (sub32 0) (unflagged m)
+effect (instr.Div to) m = given (word_in m (place_of m to)) λ word. with_division (divided (register m Edx) (register m Eax) word) m
+effect (instr.SignDiv to) m = given (word_in m (place_of m to)) λ word. with_division (signed_divided (register m Edx) (register m Eax) word) m
+effect instr.Cdq m = Goes (with_register m Edx (sign_word (register m Eax)))
+effect (instr.Shift op to) m = changed (place_of m to) (λ word. shifted op word (register m Ecx)) (unflagged m)
+effect (instr.Push from) m = goes (pushed m (register m from))
+effect (instr.Pop to) m = given (top_word m) λ word. Goes (with_register (popped m) to word)
+effect (instr.Call by) m = given (pushed m m.eip) λ after. Goes (jumped by after)
+effect (instr.Jump by) m = Goes (jumped by m)
+effect (instr.JumpIf cond by) m = given (asked cond m.flags) λ yes. Goes (if yes then jumped by m else m)
+effect (instr.JumpShort by) m = Goes (jumped (cast_unsigned w32 by) m)
+effect (instr.JumpIfShort cond by) m = given (asked cond m.flags) λ yes. Goes (if yes then jumped (cast_unsigned w32 by) m else m)
+effect (instr.SetIf cond to) m = given (byte_room m (place_of m to)) λ _. given (asked cond m.flags) λ yes. goes (with_byte m (place_of m to) (from_bool yes))
+effect instr.Ret m = given (top_word m) λ word. Goes (record (popped m) { eip = word })
 effect (instr.Interrupt number) m = if number == 128 then system_call m else Sticks cause.System
 
-abbrev pub executed : Option Instr → State → Doing
-executed None m = Sticks cause.Decode
-executed (Some i) m = effect i m
+-- an instruction and its length, if the bytes at eip spell one
+abbrev pub executed : Decoded → State → Doing
+executed (Is i size) m = effect i (past size m)
+executed Short m = Sticks cause.Decode
+executed Unknown m = Sticks cause.Decode
 
 -- the instruction that a prefix of the code spells, where eip lies in code
 abbrev pub fetched : Option (List ℕ) → State → Doing

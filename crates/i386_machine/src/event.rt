@@ -9,6 +9,10 @@ pub enum Cause {
     Decode,
     /// An access at this address does not lie in one region with the right that it needs.
     Access { address: u32 },
+    /// A division by 0, or one whose quotient does not fit.
+    Divide,
+    /// A condition on flags that are unknown.
+    Flags,
     /// A use of `int` other than the three system calls.
     System,
 }

@@ -1,15 +1,18 @@
-//! The machine: regions of memory, eight registers, and steps by the written subset of i386.
+//! The machine: regions of memory, eight registers, four flags, and steps by the instructions of `i386_code`
+//! (docs/machine.md).
 #![tactic(auto)]
 
+#[cfg(test)]
+mod cases;
 mod event;
-mod instruction;
 mod machine;
 mod memory;
+mod operand;
 mod running;
 #[cfg(test)]
 mod tests;
 
 pub use event::{Cause, Event, RunEnd, Standing};
-pub use instruction::Reg;
+pub use i386_code::Reg;
 pub use machine::Machine;
 pub use running::run;

@@ -1,25 +1,30 @@
 // The machine and its step.
+mod executing;
+mod operands;
+
 ghost use Rattle.std.specs.Prelude.{◌≡◌, ◌≢◌, ◌+◌, ◌-◌, ◌%◌, ◌^◌, ◌<◌, ◌≤◌, [], ◌∷◌, ◌++◌, length, true, false, IsTrue, ◌↔◌, IfOk, OnOk, OnErr, OnSome, IfNone, Some, None, option_map};
-ghost use Rattle.cc_base.specs.Words.{sub32};
 ghost use Rattle.i386_machine.specs.Machine.{started, stack_region, filled, register, with_register};
-ghost use Rattle.i386_machine.specs.Pending.{doing_of, Keeps, HasPlace, gone_to, runs, is_read_call};
+ghost use Rattle.i386_machine.specs.Pending.{doing_of, Keeps, HasPlace, runs, is_read_call, is_system_call};
 ghost use Rattle.i386_machine.specs.Regions.{shapes, ApartFrom, writable, byte_at};
 ghost use Rattle.i386_machine.specs.Turns.{StandsAt};
-ghost use Rattle.i386_machine.specs.Step.{Asks, Gives, Ends, Sticks, doing, effect, sign_extended, system_call, accessed, pushed, popped, top_word, past, answered, stepped, step};
+ghost use Rattle.i386_machine.specs.Step.{Asks, Gives, Ends, Sticks, doing, effect, system_call, answered, stepped, step};
 
 use crate::event::{Cause, Event, RunEnd, Standing};
-use crate::instruction::{Instr, Reg};
 use crate::memory::Memory;
+use i386_arith::Flags;
+use i386_code::{Decoded, Instr, Reg};
 use std::alloc::{AllocError, Global};
 use std::marker::Model;
 
-/// A machine: regions of memory, eight registers, the address of the next instruction, and whether it runs.
+/// A machine: regions of memory, eight registers, the address of the next instruction, the flags, and whether it runs.
 #[derive(Drop)]
 pub struct Machine {
     memory: Memory,
     // by their numbers
     registers: [u32; 8],
     eip: u32,
+    // None: they are unknown
+    flags: Option<Flags>,
     standing: Standing,
 }
 
@@ -28,7 +33,7 @@ impl Model for Machine {
 
     ghost Value = { State };
 
-    ghost view = { λ m. record { regions = m.memory; registers = m.registers; eip = m.eip; standing = m.standing } };
+    ghost view = { λ m. record { regions = m.memory; registers = m.registers; eip = m.eip; flags = m.flags; standing = m.standing } };
 }
 
 /// What is left to do of a step, after the machine has done what it can without the outside.
@@ -46,12 +51,14 @@ pub(crate) enum Pending {
     Stick(Cause),
 }
 
-// A byte as a signed number, as a word.
-fn sign_extended(byte: u8) -> u32
-    ensures { result ≡ sign_extended byte }
+/// Whether an instruction is `int 0x80`.
+fn is_system_call(instr: &Instr) -> bool
+    ensures { result ≡ is_system_call instr.now }
 {
-    let word = u32::from(byte);
-    if byte < 128 { word } else { word + 0xFFFF_FF00 }
+    match instr {
+        Instr::Interrupt { number } => *number == 0x80,
+        _ => false,
+    }
 }
 
 impl Machine {
@@ -68,6 +75,7 @@ impl Machine {
             memory: Memory::new(alloc, stack)?,
             registers: [0, 0, 0, 0, 0xBFFF_FFF0, 0, 0, 0],
             eip: entry,
+            flags: None,
             standing: Standing::Running,
         })
     }
@@ -106,7 +114,7 @@ impl Machine {
     pub fn register(&self, reg: Reg) -> u32
         ensures { result ≡ register self.now reg }
     {
-        self.registers[reg.number()]
+        self.registers[usize::from(reg.number())]
     }
 
     /// The byte at an address: None exactly outside all regions.
@@ -126,10 +134,10 @@ impl Machine {
         let Some(found) = self.memory.peek_instruction(self.eip) else {
             return false;
         };
-        let Some(instr) = found else {
+        let Decoded::Is(instr, _) = found else {
             return false;
         };
-        instr.is_system_call() && self.is_read_call()
+        is_system_call(&instr) && self.is_read_call()
     }
 
     fn is_running(&self) -> bool
@@ -153,85 +161,6 @@ impl Machine {
             && self.memory.has_room(address)
     }
 
-    fn set(&mut self, reg: Reg, word: u32)
-        ensures { self.new ≡ with_register self.old reg word }
-    {
-        self.registers[reg.number()] = word;
-    }
-
-    // On to the next instruction.
-    fn pass(&mut self, size: u32)
-        ensures { self.new ≡ past size self.old }
-    {
-        self.eip = self.eip.wrapping_add(size);
-    }
-
-    // Stores a word below the top of the stack, and goes on at an address.
-    fn push(&mut self, word: u32, next: u32) -> Pending
-        ensures does { accessed (sub32 (register self.old Reg.Esp) 4) (option_map (gone_to next) (pushed self.old word)) ≡ doing_of result self.new }
-        ensures kept { Keeps result self.old self.new }
-        ensures place { HasPlace result self.old }
-    {
-        let top = self.registers[4].wrapping_sub(4);
-        if !self.memory.store_word(top, word) {
-            return Pending::Stick(Cause::Access { address: top });
-        }
-        self.registers[4] = top;
-        self.eip = next;
-        Pending::Nothing
-    }
-
-    // Takes the word at the top of the stack, if it can be read.
-    fn pop(&mut self) -> Option<u32>
-        ensures word { result ≡ top_word self.old }
-        ensures some { OnSome result (self.new ≡ popped self.old) }
-        ensures none { IfNone result (self.new ≡ self.old) }
-    {
-        let top = self.registers[4];
-        let Some(word) = self.memory.load_word(top) else {
-            return None;
-        };
-        self.registers[4] = top.wrapping_add(4);
-        Some(word)
-    }
-
-    fn pop_into(&mut self, to: Reg) -> Pending
-        ensures does { effect (Instr.Pop to) self.old ≡ doing_of result self.new }
-        ensures kept { Keeps result self.old self.new }
-        ensures place { HasPlace result self.old }
-    {
-        let address = self.register(Reg::Esp);
-        let Some(word) = self.pop() else {
-            return Pending::Stick(Cause::Access { address });
-        };
-        self.set(to, word);
-        self.pass(1);
-        Pending::Nothing
-    }
-
-    fn return_to(&mut self) -> Pending
-        ensures does { effect Instr.Ret self.old ≡ doing_of result self.new }
-        ensures kept { Keeps result self.old self.new }
-        ensures place { HasPlace result self.old }
-    {
-        let address = self.register(Reg::Esp);
-        let Some(word) = self.pop() else {
-            return Pending::Stick(Cause::Access { address });
-        };
-        self.eip = word;
-        Pending::Nothing
-    }
-
-    fn call(&mut self, by: u32) -> Pending
-        ensures does { effect (Instr.Call by) self.old ≡ doing_of result self.new }
-        ensures kept { Keeps result self.old self.new }
-        ensures place { HasPlace result self.old }
-    {
-        let back = self.eip.wrapping_add(5);
-        self.push(back, back.wrapping_add(by))
-    }
-
-    // Linux's system calls by their numbers in eax: 1 exit, 3 read, 4 write.
     fn system_call(&mut self) -> Pending
         ensures does { system_call self.old ≡ doing_of result self.new }
         ensures kept { Keeps result self.old self.new }
@@ -259,44 +188,18 @@ impl Machine {
         Pending::Stick(Cause::System)
     }
 
+    // What an instruction does, where eip is past it already. The machine is unchanged where it does not stay inside.
     fn execute(&mut self, instr: Instr) -> Pending
         ensures does { effect instr self.old ≡ doing_of result self.new }
         ensures kept { Keeps result self.old self.new }
         ensures place { HasPlace result self.old }
     {
-        match instr {
-            Instr::LoadImm { to, value } => {
-                self.set(to, value);
-                self.pass(5);
-                Pending::Nothing
-            }
-            Instr::Store { to, from } => {
-                let word = self.register(from);
-                self.set(to, word);
-                self.pass(2);
-                Pending::Nothing
-            }
-            Instr::Lea { to, plus, .. } => {
-                let word = self.register(Reg::Esp).wrapping_add(sign_extended(plus));
-                self.set(to, word);
-                self.pass(4);
-                Pending::Nothing
-            }
-            Instr::Push { from } => {
-                let word = self.register(from);
-                let next = self.eip.wrapping_add(1);
-                self.push(word, next)
-            }
-            Instr::Pop { to } => self.pop_into(to),
-            Instr::Call { by } => self.call(by),
-            Instr::Ret => self.return_to(),
-            Instr::Interrupt { number } => {
-                if number == 0x80 {
-                    self.system_call()
-                } else {
-                    Pending::Stick(Cause::System)
-                }
-            }
+        if is_system_call(&instr) {
+            return self.system_call();
+        }
+        match self.compute(instr) {
+            Ok(()) => Pending::Nothing,
+            Err(cause) => Pending::Stick(cause),
         }
     }
 
@@ -312,13 +215,19 @@ impl Machine {
             Standing::Ended(status) => return Pending::End(status),
             Standing::Stuck(cause) => return Pending::Stick(cause),
         }
-        let Some(found) = self.memory.instruction_at(self.eip) else {
+        let start = self.eip;
+        let Some(found) = self.memory.instruction_at(start) else {
             return Pending::Stick(Cause::Fetch);
         };
-        let Some(instr) = found else {
+        let Decoded::Is(instr, size) = found else {
             return Pending::Stick(Cause::Decode);
         };
-        self.execute(instr)
+        self.eip = start.wrapping_add(u32::from(size));
+        let pending = self.execute(instr);
+        if !matches!(pending, Pending::Nothing) {
+            self.eip = start;
+        }
+        pending
     }
 
     // A system call has this answer, in eax.
@@ -326,7 +235,7 @@ impl Machine {
         ensures { self.new ≡ answered word self.old }
     {
         self.set(Reg::Eax, word);
-        self.pass(2);
+        self.eip = self.eip.wrapping_add(2);
     }
 
     // The read call has the next byte of the input, or finds its end.

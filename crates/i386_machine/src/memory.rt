@@ -1,12 +1,12 @@
 // Memory in disjoint regions.
 ghost use Rattle.std.specs.Prelude.{◌≡◌, ℕ, ◌+◌, ◌-◌, ◌^◌, ◌<◌, ◌≤◌, [], ◌∷◌, ◌++◌, length, set, true, false, MatchOption, slice_index, IfOk, OnOk, OnErr, Some, None, if◌then◌else◌, option_map};
 ghost use Rattle.cc_base.specs.Words.{join, byte_of};
-ghost use Rattle.i386_machine.specs.Instructions.{decoded};
+ghost use Rattle.i386_code.specs.Reading.{decoded};
 ghost use Rattle.i386_machine.specs.Machine.{filled, stack_region};
 ghost use Rattle.i386_machine.specs.Pieces.{region_of, HasNone, HasAt};
-ghost use Rattle.i386_machine.specs.Regions.{shapes, ApartFrom, Disjoint, shape_of, spans, writable, word_at, byte_at, store_word, store_byte, fetch, zeros};
+ghost use Rattle.i386_machine.specs.Regions.{shapes, ApartFrom, Disjoint, shape_of, spans, writable, word_at, held_word_at, byte_at, store_word, store_byte, fetch, zeros};
 
-use crate::instruction::{Instr, decode};
+use i386_code::{Decoded, decode};
 use std::alloc::{AllocError, Global};
 use std::marker::Model;
 
@@ -162,7 +162,7 @@ impl Memory {
         Ok(())
     }
 
-    /// The byte at an address, where a region has it.
+    /// The same as `load_byte`, where the machine is only looked at.
     pub(crate) fn byte_at(&self, at: u32) -> Option<u8>
         ensures { result ≡ byte_at self.now at }
     {
@@ -183,8 +183,8 @@ impl Memory {
         self.pieces[index].writable
     }
 
-    /// The instruction at an address in code, as `instruction_at` gives it.
-    pub(crate) fn peek_instruction(&self, at: u32) -> Option<Option<Instr>>
+    /// The same as `instruction_at`, where the machine is only looked at.
+    pub(crate) fn peek_instruction(&self, at: u32) -> Option<Decoded>
         ensures { result ≡ option_map decoded (fetch self.now at) }
     {
         let Some(index) = locate(&self.pieces, self.last_code, at, 1) else {
@@ -210,7 +210,23 @@ impl Memory {
         Some(word_in(&piece.bytes, (at - piece.base) as usize))
     }
 
-    /// The byte at an address likewise.
+    /// The word at an address, where one writable region has its four bytes.
+    pub(crate) fn held_word(&mut self, at: u32) -> Option<u32>
+        ensures word { result ≡ held_word_at self.old at }
+        ensures same { self.new ≡ self.old }
+    {
+        let Some(index) = locate(&self.pieces, self.last_data, at, 4) else {
+            return None;
+        };
+        self.last_data = index;
+        let piece = &self.pieces[index];
+        if !piece.writable {
+            return None;
+        }
+        Some(word_in(&piece.bytes, (at - piece.base) as usize))
+    }
+
+    /// The byte at an address, where a region has it.
     pub(crate) fn load_byte(&mut self, at: u32) -> Option<u8>
         ensures byte { result ≡ byte_at self.old at }
         ensures same { self.new ≡ self.old }
@@ -271,9 +287,8 @@ impl Memory {
         true
     }
 
-    /// The instruction at an address in code: None where the address is not in code, and Some(None) where no prefix
-    /// of the bytes there is an instruction.
-    pub(crate) fn instruction_at(&mut self, at: u32) -> Option<Option<Instr>>
+    /// What the bytes at an address in code begin with. None: the address is not in code.
+    pub(crate) fn instruction_at(&mut self, at: u32) -> Option<Decoded>
         ensures instruction { result ≡ option_map decoded (fetch self.old at) }
         ensures same { self.new ≡ self.old }
     {

@@ -1,3 +1,4 @@
 pub mod StackAndCode
+pub mod Spellings
 pub mod Hops
 pub mod ImageSemantics

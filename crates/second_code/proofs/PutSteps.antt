@@ -1,16 +1,18 @@
 -- The twelve steps of one `putbyte`, with the call of the runtime's function.
-use Rattle.std.specs.Prelude.{◌≡◌, ℕ, ◌+◌, ◌%◌, ◌<◌, ◌≤◌, ◌^◌, List, [], ◌∷◌, ◌++◌, length, Some}
+use Rattle.std.specs.Prelude.{◌≡◌, ℕ, ◌+◌, ◌%◌, ◌<◌, ◌≤◌, ◌^◌, List, [], ◌∷◌, ◌++◌, length, Some, None}
 use Rattle.std.proofs.Common.{arith, ◌∙◌, ap, sym, refl, subst}
 use Rattle.cc_base.specs.Words.{word_bytes, join-word_bytes, add32, sub32}
 use Rattle.cc_base.specs.declared.run.Act.{Act}
 use Rattle.cc_base.specs.declared.run.Act.TheVariants.{Gave}
-use Rattle.i386_machine.specs.declared.instruction.Reg.TheVariants.{Eax, Ecx, Edx, Ebx}
-use Rattle.i386_machine.specs.declared.instruction.Instr.TheVariants as instr
+use Rattle.i386_code.specs.declared.instr.Reg.TheVariants.{Eax, Ecx, Edx, Ebx, Esp}
+use Rattle.i386_code.specs.declared.instr.Instr.TheVariants as instr
+use Rattle.i386_code.specs.declared.instr.Decoded.TheVariants.{Is}
 use Rattle.i386_machine.specs.Step.{Goes, Gives, doing, write_call}
 use Rattle.i386_machine.specs.Runs.{Run}
 use Rattle.pass_core.specs.Semantics.{iterate}
 use Rattle.second_code.specs.Code.{call_code, putbyte_code}
 use Rattle.machine_steps.specs.StackAndCode.{stack_word, stack_word-other, byte-other, with_word, with_word-whole, Whole, InStack, byte_at-stack, low_byte-with_word, stack_word-same, Here, skip}
+use Rattle.machine_steps.specs.Spellings.{load_eax, load_edx, load_ebx, lea_ecx, push_eax, push_ebx, pop_eax, pop_ebx, call_by, return_from, interrupt}
 use Rattle.machine_steps.specs.Hops.{hop, hop-goes, hop-gives, one_more, run_of, words, machine_at, doing-here, pushes, calls, reads}
 
 some : (x : ℕ) (xs : List ℕ) → 0 < length (x ∷ xs)
@@ -99,7 +101,7 @@ put code bytes putbyte e k a c d b p q r n rest after left acts short whole room
     let u_4 : add32 k 4 ≡ k + 4 = omega arith in
     let u_8 : add32 (k + 4) 4 ≡ k + 8 = omega arith in
     let u_12 : add32 (k + 8) 4 ≡ k + 12 = omega arith in
-    let v_8 : add32 k 8 ≡ k + 8 = omega arith in
+    let v_8 : (k + 0 + 8) % 2 ^ 32 ≡ k + 8 = omega arith in
     let landed : add32 back by ≡ putbyte = ap (λ (x : ℕ). add32 x by) back_is ∙ lands (e + 11) putbyte (omega arith) near in
     let call_rest = 0x58 ∷ rest in
     let h_1 : Here code e_1 (0x50 ∷ ((0xe8 ∷ word_bytes by) ++ call_rest)) = skip code e (0xb8 ∷ word_bytes n) (0x50 ∷ ((0xe8 ∷ word_bytes by) ++ call_rest)) short h in
@@ -133,32 +135,32 @@ put code bytes putbyte e k a c d b p q r n rest after left acts short whole room
     let m_11 = machine_at code back (words 1 (k + 8) 1 saved (k + 8) p q r) b_3 in
     let popped = stack_word b_3 (k + 8) in
     let m_12 = machine_at code next (words popped (k + 8) 1 saved (k + 12) p q r) b_3 in
-    let d_0 : doing m_0 ≡ Goes m_1 = doing-here code bytes (words a c d b (k + 12) p q r) e (instr.LoadImm Eax n) (put_code putbyte e n ++ rest) (some 0xb8 (word_bytes n ++ (0x50 ∷ ((0xe8 ∷ word_bytes by) ++ call_rest)))) h (ap (λ (v : ℕ). Some (instr.LoadImm Eax v)) (join-word_bytes n small)) in
-    let d_1 : doing m_1 ≡ Goes m_2 = pushes code bytes e_1 n c d b (k + 12) p q r (k + 8) n (instr.Push Eax) (0x50 ∷ ((0xe8 ∷ word_bytes by) ++ call_rest)) (some 0x50 ((0xe8 ∷ word_bytes by) ++ call_rest)) h_1 refl whole i_8 s_8 refl in
+    let d_0 : doing m_0 ≡ Goes m_1 = doing-here code bytes (words a c d b (k + 12) p q r) e (instr.LoadImm Eax n) 5 (put_code putbyte e n ++ rest) (some 0xb8 (word_bytes n ++ (0x50 ∷ ((0xe8 ∷ word_bytes by) ++ call_rest)))) h (load_eax _ _ _ _ (0x50 ∷ ((0xe8 ∷ word_bytes by) ++ call_rest)) ∙ ap (λ (v : ℕ). Is (instr.LoadImm Eax v) 5) (join-word_bytes n small)) in
+    let d_1 : doing m_1 ≡ Goes m_2 = pushes code bytes e_1 n c d b (k + 12) p q r (k + 8) n (instr.Push Eax) (0x50 ∷ ((0xe8 ∷ word_bytes by) ++ call_rest)) (some 0x50 ((0xe8 ∷ word_bytes by) ++ call_rest)) h_1 (push_eax ((0xe8 ∷ word_bytes by) ++ call_rest)) whole i_8 s_8 refl in
     let d_2 : doing m_2 ≡ Goes m_3 =
-    calls code b_1 e_2 n c d b (k + 8) p q r (k + 4) by ((0xe8 ∷ word_bytes by) ++ call_rest) (some 0xe8 (word_bytes by ++ call_rest)) h_2 (ap (λ (v : ℕ). Some (instr.Call v)) (join-word_bytes by (distance_small putbyte (e + 11)))) w_1 i_4 s_4
+    calls code b_1 e_2 n c d b (k + 8) p q r (k + 4) by ((0xe8 ∷ word_bytes by) ++ call_rest) (some 0xe8 (word_bytes by ++ call_rest)) h_2 (call_by _ _ _ _ call_rest ∙ ap (λ (v : ℕ). Is (instr.Call v) 5) (join-word_bytes by (distance_small putbyte (e + 11)))) w_1 i_4 s_4
     ∙ ap (λ (x : ℕ). Goes (machine_at code x (words n c d b (k + 4) p q r) b_2)) landed in
-    let d_3 : doing m_3 ≡ Goes m_4 = pushes code b_2 putbyte n c d b (k + 4) p q r k b (instr.Push Ebx) (putbyte_code ++ after) (some 0x53 (in_1 ++ after)) there refl w_2 i_0 s_0 refl in
-    let d_4 : doing m_4 ≡ Goes m_5 = doing-here code b_3 (words n c d b k p q r) in_at (instr.LoadImm Ebx 1) (in_1 ++ after) (some 0xbb (1 ∷ 0 ∷ 0 ∷ 0 ∷ (in_2 ++ after))) t_1 refl in
+    let d_3 : doing m_3 ≡ Goes m_4 = pushes code b_2 putbyte n c d b (k + 4) p q r k b (instr.Push Ebx) (putbyte_code ++ after) (some 0x53 (in_1 ++ after)) there (push_ebx (in_1 ++ after)) w_2 i_0 s_0 refl in
+    let d_4 : doing m_4 ≡ Goes m_5 = doing-here code b_3 (words n c d b k p q r) in_at (instr.LoadImm Ebx 1) 5 (in_1 ++ after) (some 0xbb (1 ∷ 0 ∷ 0 ∷ 0 ∷ (in_2 ++ after))) t_1 (load_ebx 1 0 0 0 (in_2 ++ after)) in
     let d_5 : doing m_5 ≡ Goes m_6 =
-    doing-here code b_3 (words n c d 1 k p q r) in_bt (instr.Lea Ecx 0 8) (in_2 ++ after) (some 0x8d (0x4c ∷ 0x24 ∷ 8 ∷ (in_3 ++ after))) t_2 refl
+    doing-here code b_3 (words n c d 1 k p q r) in_bt (instr.Lea Ecx (record { base = Some Esp; index = None; disp = 8 })) 4 (in_2 ++ after) (some 0x8d (0x4c ∷ 0x24 ∷ 8 ∷ (in_3 ++ after))) t_2 (lea_ecx (in_3 ++ after))
     ∙ ap (λ (x : ℕ). Goes (machine_at code in_ct (words n x d 1 k p q r) b_3)) v_8 in
-    let d_6 : doing m_6 ≡ Goes m_7 = doing-here code b_3 (words n (k + 8) d 1 k p q r) in_ct (instr.LoadImm Edx 1) (in_3 ++ after) (some 0xba (1 ∷ 0 ∷ 0 ∷ 0 ∷ (in_4 ++ after))) t_3 refl in
-    let d_7 : doing m_7 ≡ Goes m_8 = doing-here code b_3 (words n (k + 8) 1 1 k p q r) in_dt (instr.LoadImm Eax 4) (in_4 ++ after) (some 0xb8 (4 ∷ 0 ∷ 0 ∷ 0 ∷ (in_5 ++ after))) t_4 refl in
+    let d_6 : doing m_6 ≡ Goes m_7 = doing-here code b_3 (words n (k + 8) d 1 k p q r) in_ct (instr.LoadImm Edx 1) 5 (in_3 ++ after) (some 0xba (1 ∷ 0 ∷ 0 ∷ 0 ∷ (in_4 ++ after))) t_3 (load_edx 1 0 0 0 (in_4 ++ after)) in
+    let d_7 : doing m_7 ≡ Goes m_8 = doing-here code b_3 (words n (k + 8) 1 1 k p q r) in_dt (instr.LoadImm Eax 4) 5 (in_4 ++ after) (some 0xb8 (4 ∷ 0 ∷ 0 ∷ 0 ∷ (in_5 ++ after))) t_4 (load_eax 4 0 0 0 (in_5 ++ after)) in
     let d_8 : doing m_8 ≡ Gives (n % 256) =
-    doing-here code b_3 (words 4 (k + 8) 1 1 k p q r) in_et (instr.Interrupt 128) (in_5 ++ after) (some 0xcd (0x80 ∷ (in_6 ++ after))) t_5 refl
+    doing-here code b_3 (words 4 (k + 8) 1 1 k p q r) in_et (instr.Interrupt 128) 2 (in_5 ++ after) (some 0xcd (0x80 ∷ (in_6 ++ after))) t_5 (interrupt 128 (in_6 ++ after))
     ∙ ap (write_call (k + 8)) (byte_at-stack b_3 code (k + 8) w_3 (byte_8 k room))
     ∙ ap (λ (x : ℕ). Gives x) (byte-other b_2 k b (k + 8) i_0 (omega arith) ∙ byte-other b_1 (k + 4) back (k + 8) i_4 (omega arith) ∙ low_byte-with_word bytes (k + 8) n whole i_8) in
     let d_9 : doing m_9 ≡ Goes m_10 =
-    reads code b_3 (words 1 (k + 8) 1 1 k p q r) in_ft (instr.Pop Ebx) (in_6 ++ after) k (λ w. machine_at code in_gt (words 1 (k + 8) 1 w (add32 k 4) p q r) b_3) (some 0x5b (in_7 ++ after)) t_6 refl w_3 i_0 refl
+    reads code b_3 (words 1 (k + 8) 1 1 k p q r) in_ft (instr.Pop Ebx) 1 (in_6 ++ after) k (λ w. machine_at code in_gt (words 1 (k + 8) 1 w (add32 k 4) p q r) b_3) (some 0x5b (in_7 ++ after)) t_6 (pop_ebx (in_7 ++ after)) w_3 i_0 refl
     ∙ ap (λ (x : ℕ). Goes (machine_at code in_gt (words 1 (k + 8) 1 saved x p q r) b_3)) u_4 in
     let slot : stack_word b_3 (k + 4) ≡ back = stack_word-other b_2 k b (k + 4) i_0 (omega arith) ∙ stack_word-same b_1 (k + 4) back w_1 i_4 (end_small e_2 5) in
     let d_10 : doing m_10 ≡ Goes m_11 =
-    reads code b_3 (words 1 (k + 8) 1 saved (k + 4) p q r) in_gt instr.Ret (in_7 ++ after) (k + 4) (λ w. machine_at code w (words 1 (k + 8) 1 saved (add32 (k + 4) 4) p q r) b_3) (some 0xc3 after) t_7 refl w_3 i_4 refl
+    reads code b_3 (words 1 (k + 8) 1 saved (k + 4) p q r) in_gt instr.Ret 1 (in_7 ++ after) (k + 4) (λ w. machine_at code w (words 1 (k + 8) 1 saved (add32 (k + 4) 4) p q r) b_3) (some 0xc3 after) t_7 (return_from after) w_3 i_4 refl
     ∙ ap (λ (x : ℕ). Goes (machine_at code x (words 1 (k + 8) 1 saved (add32 (k + 4) 4) p q r) b_3)) slot
     ∙ ap (λ (x : ℕ). Goes (machine_at code back (words 1 (k + 8) 1 saved x p q r) b_3)) u_8 in
     let d_11 : doing m_11 ≡ Goes m_12 =
-    reads code b_3 (words 1 (k + 8) 1 saved (k + 8) p q r) back (instr.Pop Eax) call_rest (k + 8) (λ w. machine_at code next (words w (k + 8) 1 saved (add32 (k + 8) 4) p q r) b_3) (some 0x58 rest) h_3 refl w_3 i_8 refl
+    reads code b_3 (words 1 (k + 8) 1 saved (k + 8) p q r) back (instr.Pop Eax) 1 call_rest (k + 8) (λ w. machine_at code next (words w (k + 8) 1 saved (add32 (k + 8) 4) p q r) b_3) (some 0x58 rest) h_3 (pop_eax rest) w_3 i_8 refl
     ∙ ap (λ (x : ℕ). Goes (machine_at code next (words popped (k + 8) 1 saved x p q r) b_3)) u_12 in
     let more = acts ++ Gave (n % 256) ∷ [] in
     let end = run_of m_12 left more in

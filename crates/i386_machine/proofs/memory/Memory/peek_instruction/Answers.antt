@@ -1,7 +1,7 @@
 use Rattle.std.proofs.Common.{ℕ, ◌-◌, List, Option, Some, None, Bool, cond, option_map, drop, sym, ap, subst, ◌∙◌}
 use Rattle.std.proofs.lemmas.List.{take_rest}
-use Rattle.i386_machine.specs.Instructions.{decoded}
-use Rattle.i386_machine.specs.declared.instruction.Instr.{Instr}
+use Rattle.i386_code.specs.Reading.{decoded}
+use Rattle.i386_code.specs.declared.instr.Decoded.{Decoded}
 use Rattle.i386_machine.specs.declared.memory.Piece.{Piece}
 use Rattle.i386_machine.specs.Pieces.{HasNone, HasAt}
 use Rattle.i386_machine.specs.Regions.{Region, fetch}
@@ -28,5 +28,5 @@ returns c =
     let found = code_at c.self.inside.pieces.items c.args.at c.in-Some.index p c.self.invariant.apart c.index-piece.ensures h in
     let chosen : Bool → Option (List ℕ) = λ b. cond b (Some (drop (c.args.at - p.base) p.bytes.items)) None in
     let code = take_rest c.deref-2.result.now (c.args.at - p.base) ∙ ap (drop (c.args.at - p.base)) c.deref-2.ensures.value in
-    ap (λ (i : Option Instr). Some i) (c.decode.ensures.value ∙ ap decoded code)
+    ap (λ (d : Decoded). Some d) (c.decode.ensures.value ∙ ap decoded code)
     ∙ sym (ap (option_map decoded) (ap (λ (m : List Region). fetch m c.args.at) (sym c.self.view_is) ∙ found ∙ ap chosen c.if-not-piece.false))
