@@ -53,14 +53,32 @@ cd "$program"
 text 65536 > "$folder/first.c"
 rt run -- "$folder/first.c" > "$folder/log" 2>&1 || { cat "$folder/log"; exit 1; }
 built=$(find "$program/out" -maxdepth 1 -type f -perm -u+x | head -n 1)
+
+# Times 20 runs of a command and says the time of one, how it has grown since the last size, and the peak of memory.
+measured() {
+    label=$1; bytes=$2; shift 2
+    for _ in 1 2 3 4 5 6 7 8 9 10 11 12 13 14 15 16 17 18 19 20; do printf '%s\n' "$@"; done > "$folder/words"
+    /usr/bin/time -o "$folder/time" -f '%U %S' xargs -n "$#" -a "$folder/words" env > /dev/null 2>&1 || true
+    /usr/bin/time -o "$folder/peak" -f '%M' "$@" > /dev/null 2>&1 || true
+    last=$(cat "$folder/last-$label" 2> /dev/null || echo 0)
+    tail -n 1 "$folder/time" | awk -v last="$last" -v label="$label" -v bytes="$bytes" -v peak="$(tail -n 1 "$folder/peak")" -v kept="$folder/last-$label" '{
+        each = ($1 + $2) / 20
+        growth = last > 0 ? sprintf(", %.2f times the last", each / last) : ""
+        printf "%-6s %8d bytes: %.4f s, %d KiB%s\n", label, bytes, each, peak, growth
+        print each > kept
+    }'
+}
+
+if ! command -v tcc > /dev/null; then
+    echo 'tcc is not installed, so it is skipped'
+fi
 for size in 65536 131072 262144 524288 1048576; do
     text "$size" > "$folder/$size.c"
     bytes=$(wc -c < "$folder/$size.c")
     found=$("$built" "$folder/$size.c")
-    /usr/bin/time -o "$folder/measured" -f '%U s, %M KiB' "$built" "$folder/$size.c" > /dev/null
-    printf 'parse   %8d bytes: %s (%s)\n' "$bytes" "$(cat "$folder/measured")" "$found"
+    echo "$found" | grep -q declarations || { echo "no unit: $found"; exit 1; }
+    measured parse "$bytes" "$built" "$folder/$size.c"
     if command -v tcc > /dev/null; then
-        /usr/bin/time -o "$folder/measured" -f '%U s, %M KiB' tcc -c -o "$folder/object" "$folder/$size.c" 2> /dev/null || true
-        printf 'tcc -c  %8d bytes: %s\n' "$bytes" "$(tail -n 1 "$folder/measured")"
+        measured tcc "$bytes" tcc -c -o "$folder/object" "$folder/$size.c"
     fi
 done
