@@ -5,7 +5,7 @@ use Rattle.clight_types.specs.declared.layout.Layout.{Layout}
 use Rattle.clight_types.specs.declared.layout.Size.{Size}
 use Rattle.clight_types.specs.declared.layout.Size.TheVariants as size
 use Rattle.clight_types.specs.Types.{Derived}
-use Rattle.clight_types.specs.Widths.{largest}
+use Rattle.clight_types.specs.Widths.{largest, IsOutside}
 use Rattle.clight_types.specs.Structs.{base_size, base_align}
 
 -- a pointer has four bytes and stands at a multiple of four
@@ -33,14 +33,8 @@ size_of structs t = starred t.pointers (times (count_of t.lengths) (starred t.st
 abbrev pub align_of : List (Option Layout) → Derived → Option ℕ
 align_of structs t = starred t.pointers (starred t.stars (base_align structs t.base))
 
--- no length is 0
-abbrev pub HasElements : List (Option ℕ) → Type 0
-HasElements [] = Unit {0}
-HasElements (None ∷ ls) = HasElements ls
-HasElements (Some n ∷ ls) = (0 < n) × HasElements ls
-
--- a size as it is told: one above the greatest is only told to be so
+-- a size as it is told: as a number, or that a part of it is past the greatest, and so is it, but where a length is 0
 abbrev pub IsSize : List (Option Layout) → Derived → Size → Type 0
 IsSize structs t (size.Known n) = (size_of structs t ≡ Some n) × (n ≤ largest)
-IsSize structs t size.TooLarge = HasElements t.lengths → (n : ℕ) × (size_of structs t ≡ Some n) × (largest < n)
+IsSize structs t size.TooLarge = (n : ℕ) × (size_of structs t ≡ Some n) × IsOutside n
 IsSize structs t size.Unknown = size_of structs t ≡ None

@@ -86,6 +86,14 @@ element_at b stars (l ∷ ls) pointers = Some (element_of_array b stars (l ∷ l
 abbrev pub element_of : Derived → Option Derived
 element_of t = element_at t.base t.stars t.lengths t.pointers
 
+-- a struct, or an array of structs: its size waits for the definition of the struct
+abbrev pub is_of_structs_at : Base → ℕ → ℕ → Bool
+is_of_structs_at (base.Struct tag) zero zero = true
+is_of_structs_at b stars pointers = false
+
+abbrev pub is_of_structs : Derived → Bool
+is_of_structs t = is_of_structs_at t.base t.stars t.pointers
+
 -- one pointer more cannot be counted
 abbrev pub IsDeep : Derived → Type 0
 IsDeep t = 4294967295 ≤ t.stars + t.pointers

@@ -1,5 +1,5 @@
 -- Widths of integers (System V ABI, i386 supplement), the greatest size, and products of lengths.
-use Rattle.std.specs.Prelude.{ℕ, ◌*◌, ◌<◌, List, [], ◌∷◌}
+use Rattle.std.specs.Prelude.{ℕ, ◌≡◌, ◌⊎◌, ◌*◌, ◌<◌, List, [], ◌∷◌}
 use Rattle.clight_text.specs.declared.tree.Number.{Number}
 use Rattle.clight_types.specs.declared.class.Integer.{Integer}
 use Rattle.clight_types.specs.declared.class.Integer.TheVariants as integer
@@ -20,7 +20,6 @@ abbrev pub scaled : ℕ → List Number → ℕ
 scaled size [] = size
 scaled size (n ∷ ns) = scaled (size * n.value) ns
 
--- no length is 0
-abbrev pub ArePositive : List Number → Type 0
-ArePositive [] = Unit {0}
-ArePositive (n ∷ ns) = (0 < n.value) × ArePositive ns
+-- past the greatest size, or nothing
+abbrev pub IsOutside : ℕ → Type 0
+IsOutside n = (n ≡ 0) ⊎ (largest < n)

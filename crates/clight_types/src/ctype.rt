@@ -1,6 +1,6 @@
 // A type, cheap to copy and to compare.
 ghost use Rattle.std.specs.Prelude.{◌≡◌, ◌<◌, ◌≤◌, IfSome, IfNone};
-ghost use Rattle.clight_types.specs.Types.{plain, declared, with_length, class_of, pointer_to, element_of, IsDeep};
+ghost use Rattle.clight_types.specs.Types.{plain, declared, with_length, class_of, pointer_to, element_of, is_of_structs, IsDeep};
 ghost use Rattle.clight_types.specs.Sizes.{IsSize, align_of};
 ghost use Rattle.clight_types.specs.Same.{same_type, agrees};
 
@@ -149,6 +149,16 @@ impl<'t> CType<'t> {
             outer.pointers = self.pointers.checked_add(1)?;
         }
         Some(outer)
+    }
+
+    /// Whether it is a struct or an array of structs, so that its size waits for the struct's definition.
+    pub fn is_of_structs(&self) -> bool
+        ensures { result ≡ is_of_structs self.now }
+    {
+        match self.base {
+            Base::Struct(_) => self.stars == 0 && self.pointers == 0,
+            Base::Integer(_) | Base::Void => false,
+        }
     }
 
     /// Its size. Structs are known by the numbers of their tags.

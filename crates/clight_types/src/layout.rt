@@ -11,7 +11,7 @@ pub const LARGEST: u32 = 8_388_608;
 pub enum Size {
     /// So many bytes, at most `LARGEST`.
     Known(u32),
-    /// It is greater than `LARGEST`.
+    /// It, or the elements of an array in it, are greater than `LARGEST`.
     TooLarge,
     /// It has none: `void`, an array of unknown length, or a struct whose definition has not ended.
     Unknown,

@@ -1,7 +1,7 @@
 // Sizes of bases and of arrays.
 ghost use Rattle.std.specs.Prelude.{◌≡◌, ◌≤◌, ◌<◌, ◌*◌, IfSome, IfNone};
 ghost use Rattle.std.specs.Option.{SomeIff};
-ghost use Rattle.clight_types.specs.Widths.{width_of, largest, scaled, ArePositive};
+ghost use Rattle.clight_types.specs.Widths.{width_of, largest, scaled, IsOutside};
 ghost use Rattle.clight_types.specs.Sizes.{starred};
 ghost use Rattle.clight_types.specs.Structs.{base_size, base_align, struct_of};
 
@@ -78,7 +78,7 @@ fn product(size: u32, count: u32) -> Option<u32>
 fn product_of_all(size: u32, lengths: &[Number]) -> Option<u32>
     requires { size ≤ largest }
     ensures some { IfSome result (λ n. (n ≡ scaled size lengths.now) × (n ≤ largest)) }
-    ensures none { IfNone result (ArePositive lengths.now → largest < scaled size lengths.now) }
+    ensures none { IfNone result (IsOutside (scaled size lengths.now)) }
 {
     let mut total = size;
     for length in lengths {
@@ -91,7 +91,7 @@ fn product_of_all(size: u32, lengths: &[Number]) -> Option<u32>
 pub(crate) fn array_size(size: u32, count: u32, inner: &[Number]) -> Option<u32>
     requires { size ≤ largest }
     ensures some { IfSome result (λ n. (n ≡ scaled (size * count) inner.now) × (n ≤ largest)) }
-    ensures none { IfNone result (ArePositive inner.now → largest < scaled (size * count) inner.now) }
+    ensures none { IfNone result (IsOutside (scaled (size * count) inner.now)) }
 {
     product_of_all(product(size, count)?, inner)
 }

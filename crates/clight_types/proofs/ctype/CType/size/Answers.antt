@@ -2,10 +2,10 @@
 use Rattle.std.proofs.Common.{◌≡◌, ◌<◌, ◌≤◌, ◌*◌, ℕ, arith, sym, ◌∙◌, ap, subst}
 use Rattle.std.specs.Prelude.{Option, Some}
 use Rattle.clight_types.specs.Types.{Derived, lengths_of}
-use Rattle.clight_types.specs.Sizes.{size_of, starred, HasElements}
+use Rattle.clight_types.specs.Sizes.{size_of}
 use Rattle.clight_types.specs.Structs.{base_size}
-use Rattle.clight_types.specs.Widths.{scaled, largest, ArePositive}
-use Rattle.clight_types.proofs.Products.{known_size, are_positive}
+use Rattle.clight_types.specs.Widths.{scaled}
+use Rattle.clight_types.proofs.Products.{known_size}
 use Rattle.clight_types.proofs.ctype.CType.size.Goals as goal
 
 sized : (c : goal.In-Some-array_size) → size_of c.args.structs.now c.args.self.now ≡ Some (scaled (c.in-Some.size * c.in-Known.count) c.self.inside.rest.now)
@@ -18,10 +18,8 @@ pub returns-in-Some-array_size : goal.returns-in-Some-array_size
 returns-in-Some-array_size c = (sized c ∙ ap (λ n. Some n) (sym c.in-Some-array_size.ensures.some.0), c.in-Some-array_size.ensures.some.1)
 
 pub returns-in-None : goal.returns-in-None
-returns-in-None c = λ has.
+returns-in-None c =
     (let inside = c.self.inside in
     let P : Derived → Type 0 = λ t. size_of c.args.structs.now t ≡ Some (scaled (c.in-Some.size * c.in-Known.count) inside.rest.now) in
     let whole = subst P c.self.view_is (known_size c.args.structs.now inside.base inside.stars inside.pointers c.in-Known.count c.in-Some.size inside.extent inside.rest.now (omega arith) c.in-Known.is (sym c.in-Some.ensures.value)) in
-    let H : Derived → Type 0 = λ t. HasElements t.lengths in
-    let positive = are_positive c.in-Known.count inside.extent inside.rest.now c.in-Known.is (subst H (sym c.self.view_is) has) in
-    (scaled (c.in-Some.size * c.in-Known.count) inside.rest.now, whole, c.in-None.ensures.none positive.1))
+    (scaled (c.in-Some.size * c.in-Known.count) inside.rest.now, whole, c.in-None.ensures.none))
