@@ -1,7 +1,7 @@
 -- Canonical tokens at their places, and what is read of them.
 use Rattle.std.proofs.Common.{◌≡◌, ℕ, ◌+◌, suc, zero, List, [], ◌∷◌, ◌++◌, length, drop, refl, sym, ap, subst, true, false, Bool}
 use Rattle.std.specs.List.{All}
-use Rattle.std.proofs.lemmas.List.Elements.{All-head, All-tail}
+use Rattle.std.proofs.lemmas.List.Elements.{All-head, All-tail, All-nil, All-cons}
 use Rattle.clight_text.specs.declared.kind.Kind.TheVariants as k
 use Rattle.clight_text.specs.Grammar.{Symbol}
 use Rattle.clight_text.specs.Grammar as g
@@ -42,6 +42,10 @@ Each P (x ∷ xs) = P x × Each P xs
 pub each_of : (P : Symbol → Type 0) (xs : List Symbol) → All P xs → Each P xs
 each_of P [] h = tt
 each_of P (x ∷ xs) h = (All-head P x xs h, each_of P xs (All-tail P x xs h))
+
+pub all_of : (P : Symbol → Type 0) (xs : List Symbol) → Each P xs → All P xs
+all_of P [] h = All-nil P
+all_of P (x ∷ xs) h = All-cons P x xs h.0 (all_of P xs h.1)
 
 pub each_map : (P Q : Symbol → Type 0) → ((x : Symbol) → P x → Q x) → (xs : List Symbol) → Each P xs → Each Q xs
 each_map P Q f [] h = tt

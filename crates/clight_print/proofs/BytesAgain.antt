@@ -55,31 +55,31 @@ character_again b h = escape_again b 39 [] h refl
 
 -- Strings.
 
-element_again : (b q : ℕ) (rest : List ℕ) → b < 256 → is_digit q 16 ≡ false → element 34 (escaped b ++ q ∷ rest) ≡ Some 4
+pub escaped_element : (quote b q : ℕ) (rest : List ℕ) → b < 256 → is_digit q 16 ≡ false → element quote (escaped b ++ q ∷ rest) ≡ Some 4
 unfolding element escape escaped is_simple_escape hex_escape
-element_again b q rest h hq = ap hex_escape (two_digits (hex_digit (b / 16)) (hex_digit (b % 16)) q rest (hex_again (b / 16) (high b h)).0 (hex_again (b % 16) (low b)).0 hq)
+escaped_element quote b q rest h hq = ap hex_escape (two_digits (hex_digit (b / 16)) (hex_digit (b % 16)) q rest (hex_again (b / 16) (high b h)).0 (hex_again (b % 16) (low b)).0 hq)
 
 value_again : (b q : ℕ) (rest : List ℕ) → b < 256 → is_digit q 16 ≡ false → element_value (escaped b ++ q ∷ rest) ≡ b
 unfolding element_value escaped
 value_again b q rest h hq = escape_again b q rest h hq
 
 -- what stands behind a byte of a string begins with no digit
-record Rest (bytes : List ℕ) : Type 0 where
-  q : ℕ
-  rest : List ℕ
-  is : flat_map escaped bytes ++ 34 ∷ [] ≡ q ∷ rest
-  no_digit : is_digit q 16 ≡ false
+pub record Rest (bytes behind : List ℕ) : Type 0 where
+  pub q : ℕ
+  pub rest : List ℕ
+  pub is : flat_map escaped bytes ++ 34 ∷ behind ≡ q ∷ rest
+  pub no_digit : is_digit q 16 ≡ false
 
-rest_of : (bytes : List ℕ) → Rest bytes
+pub rest_of : (bytes behind : List ℕ) → Rest bytes behind
 unfolding escaped
-rest_of [] = record { q = 34; rest = []; is = refl; no_digit = refl }
-rest_of (b ∷ bytes) = record { q = 92; rest = _; is = refl; no_digit = refl }
+rest_of [] behind = record { q = 34; rest = behind; is = refl; no_digit = refl }
+rest_of (b ∷ bytes) behind = record { q = 92; rest = _; is = refl; no_digit = refl }
 
 -- one element more
 bytes_step : (most b q : ℕ) (rest : List ℕ) → b < 256 → is_digit q 16 ≡ false → element_bytes (suc most) 34 (escaped b ++ q ∷ rest) ≡ b ∷ element_bytes most 34 (q ∷ rest)
 unfolding element_bytes escaped
 bytes_step most b q rest h hq =
-    ap (λ o. option_map_or (λ n. element_value (escaped b ++ q ∷ rest) ∷ element_bytes most 34 (drop n (escaped b ++ q ∷ rest))) o []) (element_again b q rest h hq)
+    ap (λ o. option_map_or (λ n. element_value (escaped b ++ q ∷ rest) ∷ element_bytes most 34 (drop n (escaped b ++ q ∷ rest))) o []) (escaped_element 34 b q rest h hq)
     ∙ ap (λ v. v ∷ element_bytes most 34 (q ∷ rest)) (value_again b q rest h hq)
 
 bytes_end : (most : ℕ) → element_bytes most 34 (34 ∷ []) ≡ []
@@ -91,7 +91,7 @@ bytes_again : (most : ℕ) (bytes : List ℕ) → length bytes ≤ most → All 
 bytes_again most [] l h = bytes_end most
 bytes_again zero (b ∷ bytes) l h = absurd (omega (arith, l))
 bytes_again (suc most) (b ∷ bytes) l h =
-    let r = rest_of bytes in
+    let r = rest_of bytes [] in
     let e1 : flat_map escaped (b ∷ bytes) ++ 34 ∷ [] ≡ escaped b ++ r.q ∷ r.rest = append_assoc (escaped b) (flat_map escaped bytes) (34 ∷ []) ∙ ap (λ z. escaped b ++ z) r.is in
     ap (element_bytes (suc most) 34) e1
     ∙ bytes_step most b r.q r.rest (All-head (λ b. b < 256) b bytes h) r.no_digit

@@ -120,19 +120,19 @@ declarator_again (g.DeclaratorReads.open_array x y z {a = a} {c = c} {n = count}
 rolled : (x : Initialiser-F Initialiser) → initialiser_tokens (roll-Initialiser x) ≡ initialiser_step (map-Initialiser Initialiser (List Symbol) initialiser_tokens x)
 rolled x = fold-roll-Initialiser (List Symbol) initialiser_step x
 
-tokens_expr : (t : Expr) → initialiser_tokens (i.Expr t) ≡ expr_tokens t
+pub tokens_expr : (t : Expr) → initialiser_tokens (i.Expr t) ≡ expr_tokens t
 tokens_expr t = ap initialiser_tokens (sym (i.rolls-Expr t)) ∙ rolled (Initialiser-F.Expr t)
 
-tokens_string : (at : ℕ) (bytes : List ℕ) → initialiser_tokens (i.String at bytes) ≡ string bytes ∷ []
+pub tokens_string : (at : ℕ) (bytes : List ℕ) → initialiser_tokens (i.String at bytes) ≡ string bytes ∷ []
 tokens_string at bytes = ap initialiser_tokens (sym (i.rolls-String at bytes)) ∙ rolled (Initialiser-F.String at bytes)
 
-tokens_list : (at : ℕ) (ts : List Initialiser) → initialiser_tokens (i.List at ts) ≡ braced (separated k.Comma initialiser_tokens ts)
+pub tokens_list : (at : ℕ) (ts : List Initialiser) → initialiser_tokens (i.List at ts) ≡ braced (separated k.Comma initialiser_tokens ts)
 tokens_list at ts = ap initialiser_tokens (sym (i.rolls-List at ts)) ∙ rolled (Initialiser-F.List at ts) ∙ ap braced (separated_map k.Comma initialiser_tokens ts)
 
 retold : (t : Initialiser) (ts : List Symbol) (n : ℕ) → initialiser_tokens t ≡ ts → Again g.InitialiserReads SameInitialiser (placed n ts) t → Again g.InitialiserReads SameInitialiser (placed n (initialiser_tokens t)) t
 retold t ts n is r = subst (λ (q : List Symbol). Again g.InitialiserReads SameInitialiser (placed n q) t) (sym is) r
 
-items_first : {a : List Symbol} {ts : List Initialiser} → g.InitialiserItems a ts → HasFirst ts
+pub items_first : {a : List Symbol} {ts : List Initialiser} → g.InitialiserItems a ts → HasFirst ts
 items_first (g.InitialiserItems.one {t = t} d) = first t []
 items_first (g.InitialiserItems.more x {ts = ts} {t = t} d h d') = has_first ts t
 
@@ -229,7 +229,7 @@ local_again (g.LocalReads.initialised x {a = a} {c = c} {d = d} {v = v} h e h') 
       reads = subst (λ (q : List Symbol). g.LocalReads q tree) (sym (placed_append n (declarator_tokens d) (fixed k.Assign ∷ expr_tokens v))) (g.LocalReads.initialised _ f.reads refl y.reads);
     }
 
-objects_first : {a : List Symbol} {ts : List ObjectItem} → g.Objects a ts → HasFirst ts
+pub objects_first : {a : List Symbol} {ts : List ObjectItem} → g.Objects a ts → HasFirst ts
 objects_first (g.Objects.one {d = t} d) = first t []
 objects_first (g.Objects.more x {ds = ts} {d = t} d h d') = has_first ts t
 
@@ -239,7 +239,7 @@ objects_again (g.Objects.more x {a = a} {c = c} {ds = ts} {d = t} d h d') r =
     let z = split IsReadable a (x ∷ c) r in
     further_again g.ObjectReads g.Objects SameObject object_tokens ts t (λ x a c us u h e h'. g.Objects.more x h e h') (objects_first d) (objects_again d z.0) (object_again d' z.1.1)
 
-fields_first : {a : List Symbol} {ts : List Declarator} → g.Fields a ts → HasFirst ts
+pub fields_first : {a : List Symbol} {ts : List Declarator} → g.Fields a ts → HasFirst ts
 fields_first (g.Fields.one {d = t} d) = first t []
 fields_first (g.Fields.more x {ds = ts} {d = t} d h d') = has_first ts t
 
@@ -249,7 +249,7 @@ fields_again (g.Fields.more x {a = a} {c = c} {ds = ts} {d = t} d h d') r =
     let z = split IsReadable a (x ∷ c) r in
     further_again g.FieldReads g.Fields SameDeclarator declarator_tokens ts t (λ x a c us u h e h'. g.Fields.more x h e h') (fields_first d) (fields_again d z.0) (field_again d' z.1.1)
 
-items_row_first : {a : List Symbol} {ts : List LocalItem} → g.LocalItems a ts → HasFirst ts
+pub items_row_first : {a : List Symbol} {ts : List LocalItem} → g.LocalItems a ts → HasFirst ts
 items_row_first (g.LocalItems.one {d = t} d) = first t []
 items_row_first (g.LocalItems.more x {ds = ts} {d = t} d h d') = has_first ts t
 
@@ -342,7 +342,7 @@ parameter_again (g.ParameterReads.named x {t = t} {n = count} b d h) n =
           (g.ParameterReads.named _ f.reads (stars_again count m) refl);
     }
 
-parameters_first : {a : List Symbol} {ts : List Parameter} → g.Parameters a ts → HasFirst ts
+pub parameters_first : {a : List Symbol} {ts : List Parameter} → g.Parameters a ts → HasFirst ts
 parameters_first (g.Parameters.one {p = t} d) = first t []
 parameters_first (g.Parameters.more x {ps = ts} {p = t} d h d') = has_first ts t
 
@@ -363,14 +363,14 @@ void_same p q h =
     ∙ ap (λ z. is_void_word q.base.kind && not q.base.is_const && eqb q.stars 0 && not z) (named_same h.name)
 
 -- two parameters or more are all proper
-proper_more : (ts : List Parameter) (t : Parameter) → HasFirst ts → proper (ts ++ t ∷ []) ≡ ts ++ t ∷ []
+pub proper_more : (ts : List Parameter) (t : Parameter) → HasFirst ts → proper (ts ++ t ∷ []) ≡ ts ++ t ∷ []
 proper_more _ t (first p []) = refl
 proper_more _ t (first p (q ∷ ps)) = refl
 
-proper_one : (p : Parameter) (b : Bool) → is_void_alone p ≡ b → proper (p ∷ []) ≡ (if b then [] else (p ∷ []))
+pub proper_one : (p : Parameter) (b : Bool) → is_void_alone p ≡ b → proper (p ∷ []) ≡ (if b then [] else (p ∷ []))
 proper_one p b h = ap (λ z. if z then [] else (p ∷ [])) h
 
-some_tokens : (ts : List Parameter) → HasFirst ts → parameters_tokens ts ≡ separated k.Comma parameter_tokens ts
+pub some_tokens : (ts : List Parameter) → HasFirst ts → parameters_tokens ts ≡ separated k.Comma parameter_tokens ts
 some_tokens _ (first p ps) = refl
 
 abbrev ParametersAgain : List Parameter → Type 0

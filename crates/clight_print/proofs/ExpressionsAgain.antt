@@ -119,37 +119,37 @@ up level.Product d = up_product d
 rolled : (x : Expr-F Expr) → printed (roll-Expr x) ≡ expr_step (map-Expr Expr Printed printed x)
 rolled x = fold-roll-Expr Printed expr_step x
 
-printed_name : (at : ℕ) (bytes : List ℕ) → printed (e.Name at bytes) ≡ record { tokens = name bytes ∷ []; form = Tight }
+pub printed_name : (at : ℕ) (bytes : List ℕ) → printed (e.Name at bytes) ≡ record { tokens = name bytes ∷ []; form = Tight }
 printed_name at bytes = ap printed (sym (e.rolls-Name at bytes)) ∙ rolled (Expr-F.Name at bytes)
 
-printed_number : (at v : ℕ) (s : Bool) → printed (e.Number at v s) ≡ record { tokens = number v s ∷ []; form = Tight }
+pub printed_number : (at v : ℕ) (s : Bool) → printed (e.Number at v s) ≡ record { tokens = number v s ∷ []; form = Tight }
 printed_number at v s = ap printed (sym (e.rolls-Number at v s)) ∙ rolled (Expr-F.Number at v s)
 
-printed_character : (at v : ℕ) → printed (e.Character at v) ≡ record { tokens = character v ∷ []; form = Tight }
+pub printed_character : (at v : ℕ) → printed (e.Character at v) ≡ record { tokens = character v ∷ []; form = Tight }
 printed_character at v = ap printed (sym (e.rolls-Character at v)) ∙ rolled (Expr-F.Character at v)
 
-printed_unary : (at : ℕ) (op : UnaryOp) (t : Expr) → printed (e.Unary at op t) ≡ record { tokens = fixed (prefix_kind op) ∷ operand (printed t); form = Prefixed }
+pub printed_unary : (at : ℕ) (op : UnaryOp) (t : Expr) → printed (e.Unary at op t) ≡ record { tokens = fixed (prefix_kind op) ∷ operand (printed t); form = Prefixed }
 printed_unary at op t = ap printed (sym (e.rolls-Unary at op t)) ∙ rolled (Expr-F.Unary at op t)
 
-printed_binary : (at : ℕ) (op : BinaryOp) (t v : Expr) → printed (e.Binary at op t v) ≡ record { tokens = operand (printed t) ++ fixed (operator_kind op) ∷ operand (printed v); form = Infixed }
+pub printed_binary : (at : ℕ) (op : BinaryOp) (t v : Expr) → printed (e.Binary at op t v) ≡ record { tokens = operand (printed t) ++ fixed (operator_kind op) ∷ operand (printed v); form = Infixed }
 printed_binary at op t v = ap printed (sym (e.rolls-Binary at op t v)) ∙ rolled (Expr-F.Binary at op t v)
 
-printed_cast : (at : ℕ) (to : TypeName) (t : Expr) → printed (e.Cast at to t) ≡ record { tokens = fixed k.LParen ∷ (type_tokens to ++ fixed k.RParen ∷ operand (printed t)); form = Prefixed }
+pub printed_cast : (at : ℕ) (to : TypeName) (t : Expr) → printed (e.Cast at to t) ≡ record { tokens = fixed k.LParen ∷ (type_tokens to ++ fixed k.RParen ∷ operand (printed t)); form = Prefixed }
 printed_cast at to t = ap printed (sym (e.rolls-Cast at to t)) ∙ rolled (Expr-F.Cast at to t)
 
-printed_sizeof_type : (at : ℕ) (to : TypeName) → printed (e.SizeofType at to) ≡ record { tokens = fixed k.KwSizeof ∷ parenthesised (type_tokens to); form = Prefixed }
+pub printed_sizeof_type : (at : ℕ) (to : TypeName) → printed (e.SizeofType at to) ≡ record { tokens = fixed k.KwSizeof ∷ parenthesised (type_tokens to); form = Prefixed }
 printed_sizeof_type at to = ap printed (sym (e.rolls-SizeofType at to)) ∙ rolled (Expr-F.SizeofType at to)
 
-printed_sizeof : (at : ℕ) (t : Expr) → printed (e.Sizeof at t) ≡ record { tokens = fixed k.KwSizeof ∷ operand (printed t); form = Prefixed }
+pub printed_sizeof : (at : ℕ) (t : Expr) → printed (e.Sizeof at t) ≡ record { tokens = fixed k.KwSizeof ∷ operand (printed t); form = Prefixed }
 printed_sizeof at t = ap printed (sym (e.rolls-Sizeof at t)) ∙ rolled (Expr-F.Sizeof at t)
 
-printed_index : (at : ℕ) (t i : Expr) → printed (e.Index at t i) ≡ record { tokens = operand (printed t) ++ bracketed (expr_tokens i); form = Tight }
+pub printed_index : (at : ℕ) (t i : Expr) → printed (e.Index at t i) ≡ record { tokens = operand (printed t) ++ bracketed (expr_tokens i); form = Tight }
 printed_index at t i = ap printed (sym (e.rolls-Index at t i)) ∙ rolled (Expr-F.Index at t i)
 
-printed_member : (at : ℕ) (t : Expr) (bytes : List ℕ) → printed (e.Member at t bytes) ≡ record { tokens = operand (printed t) ++ fixed k.Dot ∷ name bytes ∷ []; form = Tight }
+pub printed_member : (at : ℕ) (t : Expr) (bytes : List ℕ) → printed (e.Member at t bytes) ≡ record { tokens = operand (printed t) ++ fixed k.Dot ∷ name bytes ∷ []; form = Tight }
 printed_member at t bytes = ap printed (sym (e.rolls-Member at t bytes)) ∙ rolled (Expr-F.Member at t bytes)
 
-printed_arrow : (at : ℕ) (t : Expr) (bytes : List ℕ) → printed (e.Arrow at t bytes) ≡ record { tokens = operand (printed t) ++ fixed k.Arrow ∷ name bytes ∷ []; form = Tight }
+pub printed_arrow : (at : ℕ) (t : Expr) (bytes : List ℕ) → printed (e.Arrow at t bytes) ≡ record { tokens = operand (printed t) ++ fixed k.Arrow ∷ name bytes ∷ []; form = Tight }
 printed_arrow at t bytes = ap printed (sym (e.rolls-Arrow at t bytes)) ∙ rolled (Expr-F.Arrow at t bytes)
 
 -- Reading again.

@@ -7,3 +7,9 @@ pub mod NumbersAgain
 pub mod BytesAgain
 pub mod LiteralsAgain
 pub mod CutAgain
+pub mod AloneAgain
+pub mod LiteralsAlone
+pub mod BytesAlone
+pub mod NamesAlone
+pub mod TreeAlone
+pub mod LexemesAlone

@@ -7,7 +7,7 @@ use Rattle.clight_print.proofs.Again.{IsReadable}
 use Rattle.clight_print.proofs.NumbersAgain.{number_value_again, sign_again}
 use Rattle.clight_print.proofs.BytesAgain.{character_again, string_again}
 
-greatest_small : (radix : ℕ) (b : Bool) → greatest radix b ≤ 4294967295
+pub greatest_small : (radix : ℕ) (b : Bool) → greatest radix b ≤ 4294967295
 unfolding greatest
 greatest_small radix b = go (eqb radix 10 && not b)
   where
@@ -18,7 +18,7 @@ greatest_small radix b = go (eqb radix 10 && not b)
 value_small : (run : List ℕ) → IsNumber run → number_value run < 2 ^ 64
 value_small run h = let l = h.fits in let m = greatest_small (radix_of (body_of run)) (is_unsigned run) in let w : 4294967295 < 2 ^ 64 = lit< tt in omega (arith, l, m, w)
 
-signed_small : (run : List ℕ) → is_unsigned_number run ≡ false → nat_lt 2147483647 (number_value run) ≡ false
+pub signed_small : (run : List ℕ) → is_unsigned_number run ≡ false → nat_lt 2147483647 (number_value run) ≡ false
 unfolding is_unsigned_number
 signed_small run = go (is_unsigned run) (nat_lt 2147483647 (number_value run))
   where

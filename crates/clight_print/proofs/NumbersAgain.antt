@@ -102,3 +102,13 @@ sign_again n false h f =
     ap is_unsigned_number (append-nil (decimal n)) ∙ sign_is (decimal n)
     ∙ ap (λ b. b || nat_lt 2147483647 (number_value (decimal n))) (unsigned_without (decimal n) (decimal_is_IsNumeral n h).0.1)
     ∙ ap (λ v. nat_lt 2147483647 v) (sym (ap number_value (append-nil (decimal n))) ∙ number_value_again n false h) ∙ f refl
+
+pub text_unsigned : (n : ℕ) (s : Bool) → n < 2 ^ 64 → is_unsigned (number_text n s) ≡ s
+unfolding number_text
+text_unsigned n true h = unsigned_with (decimal n)
+text_unsigned n false h = ap is_unsigned (append-nil (decimal n)) ∙ unsigned_without (decimal n) (decimal_is_IsNumeral n h).0.1
+
+pub text_body : (n : ℕ) (s : Bool) → n < 2 ^ 64 → body_of (number_text n s) ≡ decimal n
+unfolding number_text
+text_body n true h = body_with (decimal n)
+text_body n false h = ap body_of (append-nil (decimal n)) ∙ body_without (decimal n) (decimal_is_IsNumeral n h).0.1

@@ -49,7 +49,7 @@ separated_more kind f _ x (first y ys) =
 
 -- Calls and simple statements.
 
-arguments_first : {a : List Symbol} {ts : List Expr} → g.Arguments a ts → HasFirst ts
+pub arguments_first : {a : List Symbol} {ts : List Expr} → g.Arguments a ts → HasFirst ts
 arguments_first (g.Arguments.one {t = t} d) = first t []
 arguments_first (g.Arguments.more x {ts = ts} {t = t} d h d') = has_first ts t
 
@@ -136,48 +136,48 @@ row c = flat_map stmt_tokens c
 abbrev choices : List Arm → List Symbol
 choices arms = separated k.KwElse arm_tokens arms
 
-tokens_empty : (at : ℕ) → stmt_tokens (s.Empty at) ≡ fixed k.Semi ∷ []
+pub tokens_empty : (at : ℕ) → stmt_tokens (s.Empty at) ≡ fixed k.Semi ∷ []
 tokens_empty at = ap stmt_tokens (sym (s.rolls-Empty at)) ∙ rolled (Stmt-F.Empty at)
 
-tokens_block : (at : ℕ) (c : List Stmt) → stmt_tokens (s.Block at c) ≡ braced (row c)
+pub tokens_block : (at : ℕ) (c : List Stmt) → stmt_tokens (s.Block at c) ≡ braced (row c)
 tokens_block at c = ap stmt_tokens (sym (s.rolls-Block at c)) ∙ rolled (Stmt-F.Block at c) ∙ ap braced (in_a_row_map stmt_tokens c)
 
-tokens_simple : (t : Simple) → stmt_tokens (s.Simple t) ≡ simple_tokens t ++ fixed k.Semi ∷ []
+pub tokens_simple : (t : Simple) → stmt_tokens (s.Simple t) ≡ simple_tokens t ++ fixed k.Semi ∷ []
 tokens_simple t = ap stmt_tokens (sym (s.rolls-Simple t)) ∙ rolled (Stmt-F.Simple t)
 
-tokens_return : (at : ℕ) (t : Option Expr) → stmt_tokens (s.Return at t) ≡ fixed k.KwReturn ∷ (maybe_expr_tokens t ++ fixed k.Semi ∷ [])
+pub tokens_return : (at : ℕ) (t : Option Expr) → stmt_tokens (s.Return at t) ≡ fixed k.KwReturn ∷ (maybe_expr_tokens t ++ fixed k.Semi ∷ [])
 tokens_return at t = ap stmt_tokens (sym (s.rolls-Return at t)) ∙ rolled (Stmt-F.Return at t)
 
-tokens_break : (at : ℕ) → stmt_tokens (s.Break at) ≡ fixed k.KwBreak ∷ fixed k.Semi ∷ []
+pub tokens_break : (at : ℕ) → stmt_tokens (s.Break at) ≡ fixed k.KwBreak ∷ fixed k.Semi ∷ []
 tokens_break at = ap stmt_tokens (sym (s.rolls-Break at)) ∙ rolled (Stmt-F.Break at)
 
-tokens_continue : (at : ℕ) → stmt_tokens (s.Continue at) ≡ fixed k.KwContinue ∷ fixed k.Semi ∷ []
+pub tokens_continue : (at : ℕ) → stmt_tokens (s.Continue at) ≡ fixed k.KwContinue ∷ fixed k.Semi ∷ []
 tokens_continue at = ap stmt_tokens (sym (s.rolls-Continue at)) ∙ rolled (Stmt-F.Continue at)
 
-tokens_choice : (arms : List Arm) → stmt_tokens (s.If arms None) ≡ choices arms
+pub tokens_choice : (arms : List Arm) → stmt_tokens (s.If arms None) ≡ choices arms
 tokens_choice arms =
     ap stmt_tokens (sym (s.rolls-If arms None)) ∙ rolled (Stmt-F.If arms None)
     ∙ append-nil (separated k.KwElse (λ ts. ts) (map arm_tokens arms)) ∙ separated_map k.KwElse arm_tokens arms
 
-tokens_choice_else : (arms : List Arm) (c : List Stmt) → stmt_tokens (s.If arms (Some c)) ≡ choices arms ++ fixed k.KwElse ∷ braced (row c)
+pub tokens_choice_else : (arms : List Arm) (c : List Stmt) → stmt_tokens (s.If arms (Some c)) ≡ choices arms ++ fixed k.KwElse ∷ braced (row c)
 tokens_choice_else arms c =
     ap stmt_tokens (sym (s.rolls-If arms (Some c))) ∙ rolled (Stmt-F.If arms (Some c))
     ∙ ap (λ q. q ++ fixed k.KwElse ∷ braced (in_a_row (map stmt_tokens c))) (separated_map k.KwElse arm_tokens arms)
     ∙ ap (λ q. choices arms ++ fixed k.KwElse ∷ braced q) (in_a_row_map stmt_tokens c)
 
-tokens_while : (at : ℕ) (t : Expr) (c : List Stmt) → stmt_tokens (s.While at t c) ≡ fixed k.KwWhile ∷ (parenthesised (expr_tokens t) ++ braced (row c))
+pub tokens_while : (at : ℕ) (t : Expr) (c : List Stmt) → stmt_tokens (s.While at t c) ≡ fixed k.KwWhile ∷ (parenthesised (expr_tokens t) ++ braced (row c))
 tokens_while at t c =
     ap stmt_tokens (sym (s.rolls-While at t c)) ∙ rolled (Stmt-F.While at t c) ∙ ap (λ q. fixed k.KwWhile ∷ (parenthesised (expr_tokens t) ++ braced q)) (in_a_row_map stmt_tokens c)
 
-tokens_do : (at : ℕ) (c : List Stmt) (t : Expr) → stmt_tokens (s.Do at c t) ≡ fixed k.KwDo ∷ (braced (row c) ++ fixed k.KwWhile ∷ (parenthesised (expr_tokens t) ++ fixed k.Semi ∷ []))
+pub tokens_do : (at : ℕ) (c : List Stmt) (t : Expr) → stmt_tokens (s.Do at c t) ≡ fixed k.KwDo ∷ (braced (row c) ++ fixed k.KwWhile ∷ (parenthesised (expr_tokens t) ++ fixed k.Semi ∷ []))
 tokens_do at c t =
     ap stmt_tokens (sym (s.rolls-Do at c t)) ∙ rolled (Stmt-F.Do at c t)
     ∙ ap (λ q. fixed k.KwDo ∷ (braced q ++ fixed k.KwWhile ∷ (parenthesised (expr_tokens t) ++ fixed k.Semi ∷ []))) (in_a_row_map stmt_tokens c)
 
-tokens_for : (at : ℕ) (f : Option Simple) (t : Option Expr) (l : Option Simple) (c : List Stmt) → stmt_tokens (s.For at f t l c) ≡ for_tokens f t l ++ braced (row c)
+pub tokens_for : (at : ℕ) (f : Option Simple) (t : Option Expr) (l : Option Simple) (c : List Stmt) → stmt_tokens (s.For at f t l c) ≡ for_tokens f t l ++ braced (row c)
 tokens_for at f t l c = ap stmt_tokens (sym (s.rolls-For at f t l c)) ∙ rolled (Stmt-F.For at f t l c) ∙ ap (λ q. for_tokens f t l ++ braced q) (in_a_row_map stmt_tokens c)
 
-tokens_arm : (at : ℕ) (t : Expr) (c : List Stmt) → arm_tokens (roll-Arm (record { at = at; test = t; body = c })) ≡ fixed k.KwIf ∷ (parenthesised (expr_tokens t) ++ braced (row c))
+pub tokens_arm : (at : ℕ) (t : Expr) (c : List Stmt) → arm_tokens (roll-Arm (record { at = at; test = t; body = c })) ≡ fixed k.KwIf ∷ (parenthesised (expr_tokens t) ++ braced (row c))
 tokens_arm at t c =
     fold-roll-Arm (List Symbol) (List Symbol) stmt_step arm_step (record { at = at; test = t; body = c })
     ∙ ap (λ q. fixed k.KwIf ∷ (parenthesised (expr_tokens t) ++ braced q)) (in_a_row_map stmt_tokens c)
@@ -289,7 +289,7 @@ for_again at f t l c hf ht hl hc n =
           (g.Statement.for _ _ _ _ _ refl refl x.reads refl y.reads refl z.reads refl w.reads);
     })
 
-arms_first : {a : List Symbol} {arms : List Arm} → g.Arms a arms → HasFirst arms
+pub arms_first : {a : List Symbol} {arms : List Arm} → g.Arms a arms → HasFirst arms
 arms_first (g.Arms.first x {t = t} {c = c} h d) = first (g.arm x t c) []
 arms_first (g.Arms.another x y {arms = arms} {t = t} {d = d} b h h' e) = has_first arms (g.arm y t d)
 
