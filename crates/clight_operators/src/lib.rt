@@ -3,6 +3,8 @@
 #![tactic(auto)]
 
 mod meant;
+#[cfg(test)]
+mod tests;
 
 pub use meant::{
     compared_pointers, conversion_to, not_of, on_integers, on_pointer, test_of, width_of,
