@@ -1,1 +1,2 @@
 pub mod SignedDivision
+pub mod Comparisons

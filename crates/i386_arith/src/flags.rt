@@ -2,6 +2,7 @@
 
 ghost use Rattle.std.specs.Prelude.{◌≡◌};
 ghost use Rattle.i386_arith.specs.Conditions.{holds};
+ghost use Rattle.i386_arith.specs.Comparing.{ConditionsCompare};
 
 use i386_code::Cond;
 
@@ -31,3 +32,8 @@ pub fn holds(cond: Cond, flags: Flags) -> bool
         Cond::G => !flags.zero && flags.sign == flags.overflow,
     }
 }
+
+/// After a comparison of two words each condition says how they compare, without signs or with them.
+pub fn conditions_compare()
+    ensures { ConditionsCompare }
+{}

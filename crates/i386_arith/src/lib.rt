@@ -10,5 +10,5 @@ mod operators;
 mod tests;
 
 pub use division::{Division, divide, divide_signed};
-pub use flags::{Flags, holds};
+pub use flags::{Flags, conditions_compare, holds};
 pub use operators::{Computed, operate, shift};

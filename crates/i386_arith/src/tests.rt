@@ -1,6 +1,6 @@
 // What no clause says: that the definitions are the processor's.
 use crate::cases::{DIVISIONS, OPERATIONS, SHIFTS};
-use crate::{Division, Flags, divide, divide_signed, holds, operate, shift};
+use crate::{Division, Flags, conditions_compare, divide, divide_signed, holds, operate, shift};
 use i386_code::Cond;
 
 #[test]
@@ -72,4 +72,5 @@ fn conditions_on_the_flags_of_a_comparison(rt: HostRuntime) {
         assert!(rt; holds(cond, below) == first, "{cond:?}");
         assert!(rt; holds(cond, less) == second, "{cond:?}");
     }
+    conditions_compare();
 }
