@@ -1,0 +1,5 @@
+int line(void)
+{
+    putbyte(10);
+    return 0;
+}
