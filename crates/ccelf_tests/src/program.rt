@@ -303,7 +303,7 @@ fn an_image_by_hand_runs(rt: HostRuntime) -> Result<(), Fail> {
     ];
     for (steps, report, status) in rows {
         let mut image = Vec::from_slice(alloc, HEADERS)?;
-        while image.len() < 4096 {
+        for _ in HEADERS.len()..4096 {
             image.push(0)?;
         }
         image.extend_from_slice(CODE)?;
