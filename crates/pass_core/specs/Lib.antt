@@ -1,3 +1,4 @@
 pub mod Refines
+pub mod Rooms
 pub mod Semantics
 pub mod Simulation
