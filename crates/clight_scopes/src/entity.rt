@@ -1,0 +1,42 @@
+// What names mean.
+use clight_types::CType;
+use sqlite_items::Items;
+
+/// What calls of a function know of it.
+#[derive(Drop)]
+pub struct Prototype<'t> {
+    /// Its symbol.
+    pub symbol: u32,
+    /// The type of its result: `void`, an integer or a pointer.
+    pub result: CType<'t>,
+    /// The types of its parameters.
+    pub parameters: Items<CType<'t>>,
+}
+
+/// What a name means.
+#[derive(Drop)]
+pub enum Entity<'t> {
+    /// A parameter or `register` local, by its number.
+    Temporary(u32, CType<'t>),
+    /// Another local, by its number among the blocks.
+    Local(u32, CType<'t>),
+    /// An object of file scope, by its symbol.
+    Object(u32, CType<'t>),
+    Function(Prototype<'t>),
+}
+
+/// A name with what it means.
+#[derive(Drop)]
+pub struct Named<'t> {
+    pub name: Items<u8>,
+    pub entity: Entity<'t>,
+}
+
+/// A member of a struct.
+#[derive(Drop)]
+pub struct Member<'t> {
+    pub name: Items<u8>,
+    pub ctype: CType<'t>,
+    /// Where it begins in the struct, in bytes.
+    pub offset: u32,
+}
