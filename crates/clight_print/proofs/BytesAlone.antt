@@ -24,7 +24,7 @@ character_front b rest h = ap (λ o. option_map_or (front.Token token.Char) o fr
 
 pub character_alone : (b : ℕ) → b < 256 → StandsAlone (spelled.character b)
 unfolding character_text escaped
-character_alone b h = record { before_space = λ rest. character_front b (32 ∷ rest) h; before_newline = λ rest. character_front b (10 ∷ rest) h }
+character_alone b h = record { before_space = λ rest. character_front b (32 ∷ rest) h; before_newline = λ rest. character_front b (10 ∷ rest) h; kind = refl }
 
 -- Strings.
 
@@ -48,4 +48,4 @@ string_front bytes rest h =
     (one n (subst (λ (z : List ℕ). Elements 34 z n) (sym e) (string_elements bytes rest h)))
 
 pub string_alone : (bytes : List ℕ) → All (λ b. b < 256) bytes → StandsAlone (spelled.string bytes)
-string_alone bytes h = record { before_space = λ rest. string_front bytes (32 ∷ rest) h; before_newline = λ rest. string_front bytes (10 ∷ rest) h }
+string_alone bytes h = record { before_space = λ rest. string_front bytes (32 ∷ rest) h; before_newline = λ rest. string_front bytes (10 ∷ rest) h; kind = refl }

@@ -3,15 +3,19 @@ use Rattle.std.proofs.Common.{◌≡◌, ℕ, ◌≤◌, List, [], ◌∷◌, tr
 use Rattle.std.specs.List.{All}
 use Rattle.std.proofs.lemmas.List.Elements.{All-head, All-tail}
 use Rattle.clight_text.specs.Lexical.{is_letter, is_word_byte, is_unsigned, is_unsigned_number, number_value, radix_of, body_of}
-use Rattle.clight_text.specs.Grammar.{Symbol}
+use Rattle.clight_text.specs.Grammar.{Symbol, Reads}
+use Rattle.clight_text.specs.declared.tree.External.{External}
 use Rattle.clight_print.specs.Spelling.{name}
 use Rattle.clight_print.specs.Cut.{StandsAlone}
-use Rattle.clight_print.specs.Placed.{IsName, IsLexeme}
+use Rattle.clight_text.specs.Lexemes.{IsName}
+use Rattle.clight_print.specs.Placed.{IsLexeme}
 use Rattle.clight_print.proofs.LiteralsAgain.{greatest_small, signed_small}
 use Rattle.clight_print.proofs.LiteralsAlone.{EachIs}
 use Rattle.clight_print.proofs.NamesAlone.{value_alone, name_alone}
 use Rattle.clight_print.proofs.BytesAlone.{character_alone, string_alone}
-use Rattle.clight_print.proofs.TreeAlone.{CanStand}
+use Rattle.clight_print.proofs.TreeAlone.{CanStand, tree_alone}
+use Rattle.clight_print.proofs.Again.{each_of, each_map, all_of}
+use Rattle.clight_print.specs.Canonical.{tokens_of}
 
 each_is : (bytes : List ℕ) → All (λ byte. is_word_byte byte ≡ true) bytes → EachIs is_word_byte bytes
 each_is [] h = tt
@@ -37,3 +41,6 @@ can_stand x h = record {
   character = λ e. character_alone _ (h.character e);
   string = λ e. string_alone _ (h.string e);
 }
+
+pub tree_stands : (tokens : List Symbol) (tree : List External) → Reads tokens tree → All IsLexeme tokens → All StandsAlone (tokens_of tree)
+tree_stands tokens tree d h = all_of StandsAlone (tokens_of tree) (tree_alone d (each_map IsLexeme CanStand can_stand tokens (each_of IsLexeme tokens h)))

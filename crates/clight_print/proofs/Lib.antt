@@ -13,3 +13,5 @@ pub mod BytesAlone
 pub mod NamesAlone
 pub mod TreeAlone
 pub mod LexemesAlone
+pub mod SymbolsAgain
+pub mod ParsedAgain

@@ -121,4 +121,5 @@ number_alone n s h num =
     record {
       before_space = λ rest. number_front (number_text n s) f.c f.more 32 rest f.is f.digit bytes num space_no_word;
       before_newline = λ rest. number_front (number_text n s) f.c f.more 10 rest f.is f.digit bytes num newline_no_word;
+      kind = refl;
     }

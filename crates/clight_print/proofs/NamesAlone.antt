@@ -94,4 +94,4 @@ word_front c more q rest h bytes word e =
     ∙ ap (λ n. front.Token (if is_keyword (word_of text) then token.Keyword else token.Id) n) (sym (run_length is_word_byte (c ∷ more) q rest bytes e)))
 
 pub name_alone : (c : ℕ) (more : List ℕ) → is_letter c ≡ true → EachIs is_word_byte (c ∷ more) → is_keyword (c ∷ more) ≡ false → StandsAlone (name (c ∷ more))
-name_alone c more h bytes word = record { before_space = λ rest. word_front c more 32 rest h bytes word space_no_word; before_newline = λ rest. word_front c more 10 rest h bytes word newline_no_word }
+name_alone c more h bytes word = record { before_space = λ rest. word_front c more 32 rest h bytes word space_no_word; before_newline = λ rest. word_front c more 10 rest h bytes word newline_no_word; kind = refl }

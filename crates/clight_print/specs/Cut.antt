@@ -1,5 +1,5 @@
 -- Tokens that the lexer takes off a canonical text.
-use Rattle.std.specs.Prelude.{ℕ, ◌+◌, List, [], ◌∷◌, ◌++◌, length}
+use Rattle.std.specs.Prelude.{◌≡◌, ℕ, ◌+◌, List, [], ◌∷◌, ◌++◌, length}
 use Rattle.clight_text.specs.declared.kind.Kind.{Kind}
 use Rattle.clight_text.specs.declared.kind.Kind.TheVariants as k
 use Rattle.clight_text.specs.declared.token_list.Token.{Token}
@@ -8,6 +8,7 @@ use Rattle.clight_text.specs.declared.token_list.TokenKind.TheVariants as token
 use Rattle.clight_text.specs.declared.front.Front.TheVariants as front
 use Rattle.clight_text.specs.Lexical.{IsFront}
 use Rattle.clight_text.specs.Grammar.{Symbol}
+use Rattle.clight_parser.specs.Symbols.{kind_of}
 
 -- which kind of token it is
 abbrev pub token_kind : Kind → TokenKind
@@ -42,7 +43,8 @@ abbrev pub cut_at : ℕ → List Symbol → List Token
 cut_at at [] = []
 cut_at at (x ∷ xs) = record { kind = token_kind x.kind; start = at; length = length x.text } ∷ cut_at (at + length x.text + 1) xs
 
--- a text that begins with it, and then has a space or a newline, begins with just this token
+-- a text that begins with it, and then has a space or a newline, begins with just this token, which is what it is to the grammar
 pub record StandsAlone (x : Symbol) : Type 0 where
   pub before_space : (rest : List ℕ) → IsFront (x.text ++ 32 ∷ rest) (front.Token (token_kind x.kind) (length x.text))
   pub before_newline : (rest : List ℕ) → IsFront (x.text ++ 10 ∷ rest) (front.Token (token_kind x.kind) (length x.text))
+  pub kind : kind_of (token_kind x.kind) x.text ≡ x.kind

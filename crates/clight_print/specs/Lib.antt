@@ -5,3 +5,4 @@ pub mod SameTree
 pub mod Placed
 pub mod ReadBack
 pub mod Cut
+pub mod Reparsed

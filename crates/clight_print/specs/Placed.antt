@@ -1,7 +1,7 @@
 -- The canonical tokens where they stand in the canonical text.
-use Rattle.std.specs.Prelude.{◌≡◌, ℕ, ◌+◌, ◌<◌, List, [], ◌∷◌, length, drop, slice_index, true, false}
-use Rattle.std.specs.List.{All}
-use Rattle.clight_text.specs.Lexical.{is_letter, is_word_byte, is_keyword, IsNumber, element_value, string_value}
+use Rattle.std.specs.Prelude.{◌≡◌, ℕ, ◌+◌, ◌<◌, List, [], ◌∷◌, length, drop}
+use Rattle.clight_text.specs.Lexical.{IsNumber, element_value, string_value}
+use Rattle.clight_text.specs.Lexemes.{AreBytes, IsName}
 use Rattle.clight_text.specs.declared.kind.Kind.TheVariants as k
 use Rattle.clight_text.specs.Grammar.{Symbol}
 
@@ -10,15 +10,9 @@ abbrev pub placed : ℕ → List Symbol → List Symbol
 placed at [] = []
 placed at (x ∷ xs) = record { kind = x.kind; at = at; text = x.text } ∷ placed (at + length x.text + 1) xs
 
--- a word that is no keyword
-pub record IsName (bytes : List ℕ) : Type 0 where
-  pub first : is_letter (slice_index bytes 0) ≡ true
-  pub all : All (λ byte. is_word_byte byte ≡ true) bytes
-  pub word : is_keyword bytes ≡ false
-
 -- what the names and literals of a text are: words that are no keywords, numbers within their range, and bytes
 pub record IsLexeme (x : Symbol) : Type 0 where
   pub name : x.kind ≡ k.Id → IsName x.text
   pub number : x.kind ≡ k.Num → IsNumber x.text
   pub character : x.kind ≡ k.Char → element_value (drop 1 x.text) < 256
-  pub string : x.kind ≡ k.Str → All (λ byte. byte < 256) (string_value x.text)
+  pub string : x.kind ≡ k.Str → AreBytes (string_value x.text)

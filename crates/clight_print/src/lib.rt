@@ -16,5 +16,5 @@ mod statements;
 mod types;
 mod writing;
 
-pub use laws::{canonical_text_is_cut, canonical_tokens_read_back};
+pub use laws::{canonical_text_is_cut, canonical_tokens_read_back, printed_text_parses_back};
 pub use printing::print;

@@ -2,3 +2,4 @@ pub mod DigitLemmas
 pub mod FrontLemmas
 pub mod ValueLemmas
 pub mod LiteralLemmas
+pub mod LexemeLemmas

@@ -1,10 +1,9 @@
 -- The literals that a text begins with.
-use Rattle.std.proofs.Common.{◌≡◌, ℕ, zero, suc, ◌+◌, ◌-◌, ◌<◌, ◌≤◌, min, List, [], ◌∷◌, length, take, drop, get_or, cond, refl, true, false, Bool, arith, ap, sym, ◌∙◌, subst, Some, None, Option, is_some, if◌then◌else◌, eqb, eqb-true}
+use Rattle.std.proofs.Common.{◌≡◌, ℕ, zero, suc, ◌+◌, ◌<◌, ◌≤◌, min, List, [], ◌∷◌, length, take, drop, get_or, cond, refl, true, false, Bool, arith, ap, sym, ◌∙◌, subst, Some, None, Option, is_some, if◌then◌else◌, eqb}
 use Rattle.std.proofs.lemmas.List.Folds.{length-prefix_len}
 use Rattle.std.specs.Prelude.{IsSome}
 use Rattle.std.specs.Option.{option_map_or, option_and_then}
 use Rattle.std.specs.List.{prefix_len, take_while}
-use Rattle.std.specs.Str.Parse.{digits_value}
 use Rattle.clight_text.specs.Lexical.{Measured, one, none, IsFrontOf, IsFront, shape_of, is_keyword, word_of, is_word_byte, IsNumber, is_simple_escape, is_plain, is_octal_digit, is_hex_digit, octal_escape, hex_escape, escape, element, character, comment_end, sign_length, Elements}
 use Rattle.clight_text.specs.Spelled.{IsLiteral}
 use Rattle.clight_text.specs.declared.token_list.TokenKind.{TokenKind}
@@ -31,7 +30,7 @@ take_take (suc m) zero xs l = absurd (omega arith)
 take_take (suc m) (suc n) [] l = refl
 take_take (suc m) (suc n) (x ∷ xs) l = ap (λ ys. x ∷ ys) (take_take m n xs (omega arith))
 
-first_of_take : (n : ℕ) (xs : List ℕ) → 1 ≤ n → get_or (take n xs) 0 0 ≡ get_or xs 0 0
+pub first_of_take : (n : ℕ) (xs : List ℕ) → 1 ≤ n → get_or (take n xs) 0 0 ≡ get_or xs 0 0
 first_of_take zero xs l = absurd (omega arith)
 first_of_take (suc n) [] l = refl
 first_of_take (suc n) (x ∷ xs) l = refl
@@ -159,7 +158,7 @@ string_literal : (text : List ℕ) (f : Front) → Measured (Elements 34 (drop 1
 string_literal text _ (one m p) j n h = kind_same kind.Str j (m + 2) n h text tt
 string_literal text _ (none p) j n h = absurd (cc)
 
-blank_or : (o : Option ℕ) (j : TokenKind) (n : ℕ) → front.Token j n ≡ option_map_or (λ n. front.Blank (n + 2)) o front.NoToken → ⊥
+pub blank_or : (o : Option ℕ) (j : TokenKind) (n : ℕ) → front.Token j n ≡ option_map_or (λ n. front.Blank (n + 2)) o front.NoToken → ⊥
 blank_or None j n h = cc
 blank_or (Some m) j n h = cc
 

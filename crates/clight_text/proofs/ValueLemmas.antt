@@ -1,13 +1,13 @@
 -- The values of literals.
-use Rattle.std.proofs.Common.{◌≡◌, ℕ, ◌+◌, ◌-◌, ◌<◌, ◌≤◌, ◌^◌, zero, suc, List, [], ◌∷◌, ◌++◌, length, take, drop, get_or, refl, true, false, Bool, ◌||◌, eqb, eqb-true, eq-eqb, arith, ap, sym, ◌∙◌, subst, Some, None, Option, is_some, cond, if◌then◌else◌, append_assoc, length-append}
+use Rattle.std.proofs.Common.{◌≡◌, ℕ, ◌+◌, ◌-◌, ◌<◌, ◌≤◌, ◌^◌, zero, suc, List, [], ◌∷◌, ◌++◌, length, take, drop, get_or, refl, true, false, Bool, ◌||◌, eqb, eqb-true, arith, ap, sym, ◌∙◌, subst, Some, None, if◌then◌else◌, append_assoc, length-append}
 use Rattle.std.proofs.lemmas.Int.Digits.{digits_value-lt}
 use Rattle.std.proofs.lemmas.List.{drop-drop, drop_all}
-use Rattle.std.specs.Prelude.{IsSome, IfSome}
+use Rattle.std.specs.Prelude.{IsSome}
 use Rattle.std.specs.Option.{option_map_or}
 use Rattle.std.specs.List.{prefix_len, take_while}
 use Rattle.std.specs.Char.{is_digit}
 use Rattle.std.specs.Str.Parse.{AllDigits, digits_value}
-use Rattle.clight_text.specs.Lexical.{is_unsigned, body_of, is_hexadecimal, radix_of, digits_of, IsNumber, is_plain, is_simple_escape, is_octal_digit, is_hex_digit, octal_escape, hex_escape, escape, escape_value, element, element_value, element_bytes}
+use Rattle.clight_text.specs.Lexical.{is_unsigned, body_of, is_hexadecimal, radix_of, digits_of, IsNumber, is_plain, is_simple_escape, is_octal_digit, is_hex_digit, octal_escape, hex_escape, escape, element, element_value, element_bytes}
 use Rattle.clight_text.proofs.DigitLemmas.{front_digits}
 
 pub number_some : (run : List ℕ) → IsNumber run → 1 ≤ length run

@@ -1,6 +1,7 @@
 pub mod Lexical
 pub mod Scanning
 pub mod Spelled
+pub mod Lexemes
 pub mod Grammar
 pub mod SameKind
 pub mod Programs

@@ -3,6 +3,7 @@ ghost use Rattle.std.specs.Prelude.{◌≡◌, ℕ, List, IfOk, IfErr};
 ghost use Rattle.std.specs.List.{All};
 ghost use Rattle.clight_text.specs.Scanning.{Ending, IsCut, HasTokens, HasTokenFault};
 ghost use Rattle.clight_text.specs.Spelled.{IsSpelled};
+ghost use Rattle.clight_text.specs.Lexemes.{AreBytes, IsLexemeIn};
 ghost use Rattle.clight_text.specs.declared.token_list.Token.{Token as TokenValue};
 
 use crate::fault::SyntaxFault;
@@ -46,6 +47,12 @@ pub fn tokens(alloc: Global, text: &[u8]) -> Result<Tokens, SyntaxFault>
 /// A text is cut into its tokens in one way: it has one list of tokens up to one ending.
 pub fn cut_in_one_way()
     ensures { (text : List ℕ) (tokens others : List TokenValue) (ending other : Ending) → IsCut 0 text tokens ending → IsCut 0 text others other → (tokens ≡ others) × (ending ≡ other) }
+{}
+
+/// What the tokens of a text of bytes are, as far as they are found: names are words and no keywords, numbers are within
+/// their range, and the values of characters and strings are bytes.
+pub fn tokens_are_lexemes()
+    ensures { (text : List ℕ) (tokens : List TokenValue) (ending : Ending) → AreBytes text → IsCut 0 text tokens ending → All (IsLexemeIn text) tokens }
 {}
 
 #[cfg(test)]

@@ -15,7 +15,7 @@ mod values;
 pub use fault::SyntaxFault;
 pub use grammar::{one_tree, one_tree_of_an_expression};
 pub use kind::{Kind, Level};
-pub use lexer::{cut_in_one_way, tokens};
+pub use lexer::{cut_in_one_way, tokens, tokens_are_lexemes};
 pub use token_list::{Token, TokenKind, Tokens};
 pub use tree::{
     Arm, AssignedValue, Base, BaseKind, BinaryOp, Call, Declarator, Expr, External, Head,

@@ -1,4 +1,4 @@
-use Rattle.std.proofs.Common.{◌≡◌, true, sym, ◌∙◌, ap}
+use Rattle.std.proofs.Common.{sym, ◌∙◌, ap}
 use Rattle.std.proofs.lemmas.List.{take_rest}
 use Rattle.clight_text.specs.Lexical.{is_octal_digit}
 use Rattle.clight_text.proofs.ValueLemmas.{octal_small, hex_small}

@@ -1,4 +1,4 @@
-use Rattle.std.proofs.Common.{◌≡◌, ◌++◌, ◌+◌, ◌-◌, ◌<◌, [], length, drop, refl, sym, ap, ◌∙◌, arith, append-nil, length-append, ◌∷◌, take, get_or, subst, List, ℕ}
+use Rattle.std.proofs.Common.{◌≡◌, ◌++◌, ◌-◌, [], length, drop, sym, ap, ◌∙◌, arith, append-nil, length-append, ◌∷◌, List, ℕ}
 use Rattle.std.proofs.lemmas.List.{take_rest}
 use Rattle.clight_text.specs.Lexical.{element_bytes, string_value}
 use Rattle.clight_text.proofs.ValueLemmas.{bytes_quote, bytes_none, bytes_at_end, string_turn}
