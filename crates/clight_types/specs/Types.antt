@@ -40,6 +40,14 @@ known_first n (l ∷ ls) = Some n ∷ ls
 abbrev pub with_length : ℕ → Derived → Derived
 with_length n t = record t { lengths = known_first n t.lengths }
 
+-- the outermost length of an array, where it is known
+abbrev pub first_length : List (Option ℕ) → Option ℕ
+first_length [] = None
+first_length (l ∷ ls) = l
+
+abbrev pub length_of : Derived → Option ℕ
+length_of t = first_length t.lengths
+
 -- what a base without stars is
 abbrev pub class_of_base : Base → Class
 class_of_base (base.Integer i) = class.Integer i

@@ -1,6 +1,6 @@
 // A type, cheap to copy and to compare.
 ghost use Rattle.std.specs.Prelude.{◌≡◌, ◌<◌, ◌≤◌, IfSome, IfNone};
-ghost use Rattle.clight_types.specs.Types.{plain, declared, with_length, class_of, pointer_to, element_of, is_of_structs, IsDeep};
+ghost use Rattle.clight_types.specs.Types.{plain, declared, with_length, length_of, class_of, pointer_to, element_of, is_of_structs, IsDeep};
 ghost use Rattle.clight_types.specs.Sizes.{IsSize, align_of};
 ghost use Rattle.clight_types.specs.Same.{same_type, agrees};
 
@@ -91,6 +91,16 @@ impl<'t> CType<'t> {
             known.extent = Extent::Known(length);
         }
         known
+    }
+
+    /// The outermost length of an array, where it is known. A pointer to an array has that of the array.
+    pub fn length(&self) -> Option<u32>
+        ensures { result ≡ length_of self.now }
+    {
+        match self.extent {
+            Extent::Known(length) => Some(length),
+            Extent::Absent | Extent::Unknown => None,
+        }
     }
 
     /// What it is.
