@@ -1,5 +1,5 @@
 -- What was decoded stays so where no writable region has it: stores and further regions change nothing there.
-use Rattle.std.proofs.Common.{cond, ◌++◌, ◌≡◌, ℕ, ◌+◌, ◌-◌, List, [], ◌∷◌, length, get_or, set, drop, map, Bool, true, false, ◌&&◌, ◌||◌, Option, Some, None, slice_get, arith, refl, ap, sym, subst, ◌∙◌, zero, suc}
+use Rattle.std.proofs.Common.{cond, ◌++◌, ◌≡◌, ℕ, ◌-◌, List, [], ◌∷◌, length, get_or, set, drop, map, Bool, true, false, ◌&&◌, ◌||◌, Option, Some, None, slice_get, arith, refl, ap, sym, subst, ◌∙◌, zero, suc}
 use Rattle.std.specs.Prelude.{option_map, IfSome}
 use Rattle.std.proofs.lemmas.List.{map-set}
 use Rattle.std.proofs.lemmas.List.Elements.{All-weaker}
@@ -10,7 +10,7 @@ use Rattle.i386_machine.specs.declared.known.Known.{Known}
 use Rattle.i386_machine.specs.declared.memory.Piece.{Piece}
 use Rattle.i386_machine.specs.Known.{IsKnown, AllKnown}
 use Rattle.i386_machine.specs.Pieces.{region_of, HasAt}
-use Rattle.i386_machine.specs.Regions.{fetch, Shape, Region, shape_of, shapes, spans, writable, Apart, ApartFrom, Disjoint}
+use Rattle.i386_machine.specs.Regions.{fetch, Shape, Region, shape_of, shapes, spans, writable, ApartFrom}
 use Rattle.i386_machine.specs.At.{shapes-set, not_both}
 use Rattle.i386_machine.proofs.Accesses.{region_at}
 

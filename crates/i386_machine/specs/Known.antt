@@ -1,5 +1,5 @@
 -- The instructions that were decoded and are kept.
-use Rattle.std.specs.Prelude.{◌≡◌, ℕ, List, false, Option, Some, option_map, IfSome}
+use Rattle.std.specs.Prelude.{◌≡◌, List, false, Option, Some, option_map, IfSome}
 use Rattle.std.specs.List.{All}
 use Rattle.i386_code.specs.Reading.{decoded}
 use Rattle.i386_code.specs.declared.instr.Decoded.TheVariants.{Is}

@@ -289,18 +289,27 @@ impl Memory {
         true
     }
 
-    /// The same, which is kept for the next time where no step can change it.
-    pub(crate) fn instruction_at(&mut self, at: u32) -> Option<Decoded>
+    // What is found there is kept for the next time, where no step can change it.
+    #[inline(never)]
+    fn decode_at(&mut self, at: u32) -> Option<Decoded>
         ensures instruction { result ≡ option_map decoded (fetch self.old at) }
         ensures same { self.new ≡ self.old }
     {
-        if let Some(found) = known_at(&self.slots, at) {
-            return Some(found);
-        }
         let found = self.peek_instruction(at)?;
         if !self.has_room(at) {
             keep(&mut self.slots, at, found);
         }
         Some(found)
+    }
+
+    /// The same as `peek_instruction`, and faster where an instruction was found at this address before.
+    pub(crate) fn instruction_at(&mut self, at: u32) -> Option<Decoded>
+        ensures instruction { result ≡ option_map decoded (fetch self.old at) }
+        ensures same { self.new ≡ self.old }
+    {
+        match known_at(&self.slots, at) {
+            Some(found) => Some(found),
+            None => self.decode_at(at),
+        }
     }
 }
