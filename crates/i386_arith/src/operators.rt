@@ -50,6 +50,7 @@ fn bitwise(word: u32) -> Computed
 
 /// What an operation makes of its first and second operand (Intel SDM, volume 2, under ADD, SUB, AND, OR, XOR, CMP and
 /// TEST).
+#[inline(always)]
 pub fn operate(op: AluOp, a: u32, b: u32) -> Computed
     ensures { result ≡ operated op a b }
 {

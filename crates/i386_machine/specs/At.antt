@@ -13,7 +13,7 @@ apart_at s (q ∷ m) zero r h e = let same : q ≡ r = cc in subst (λ (x : Regi
 apart_at s (q ∷ m) (suc i) r h e = apart_at s m i r h.1 e
 
 -- no other region has any of the addresses
-not_both : (s t : Shape) (a n : ℕ) → Apart s t → spans t a n ≡ true → 0 < n → spans s a n ≡ false
+pub not_both : (s t : Shape) (a n : ℕ) → Apart s t → spans t a n ≡ true → 0 < n → spans s a n ≡ false
 not_both s t a n apart h some =
     false_from_ne_true (spans s a n) (λ w.
     let p = spans_facts t a n h in

@@ -1,6 +1,7 @@
 pub mod Regions
 pub mod Laws
 pub mod At
+pub mod Known
 pub mod Pieces
 pub mod Machine
 pub mod Operands

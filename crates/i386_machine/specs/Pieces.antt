@@ -1,6 +1,7 @@
 -- How the pieces of the code are regions.
 use Rattle.std.specs.Prelude.{◌≡◌, ℕ, ◌+◌, ◌<◌, ◌≤◌, List, [], ◌∷◌, map, length, true, false, get_or}
 use Rattle.i386_machine.specs.Regions.{Region, Shape, shape_of, shapes, spans, Disjoint}
+use Rattle.i386_machine.specs.Known.{AllKnown}
 use Rattle.i386_machine.specs.declared.memory.Piece.{Piece}
 use Rattle.i386_machine.specs.declared.memory.Memory.TheInside.{Inside}
 
@@ -16,7 +17,8 @@ pub record IsMemory (s : Inside) : Type 0 where
   pub apart : Disjoint (shapes (map region_of s.pieces.items))
   pub ends : EndsWithin (shapes (map region_of s.pieces.items))
   pub data_within : s.last_data < length s.pieces.items
-  pub code_within : s.last_code < length s.pieces.items
+  pub slots : length s.slots.items ≡ 4096
+  pub known : AllKnown (map region_of s.pieces.items) s.slots.items
 
 -- none of the first pieces has all n addresses from a on
 abbrev pub HasNoneBelow : List Piece → ℕ → ℕ → ℕ → Type 0

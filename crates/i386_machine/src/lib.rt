@@ -5,6 +5,7 @@
 #[cfg(test)]
 mod cases;
 mod event;
+mod known;
 mod machine;
 mod memory;
 mod operand;

@@ -189,12 +189,13 @@ impl Machine {
     }
 
     // What an instruction does, where eip is past it already. The machine is unchanged where it does not stay inside.
-    fn execute(&mut self, instr: Instr) -> Pending
-        ensures does { effect instr self.old ≡ doing_of result self.new }
+    #[inline(never)]
+    fn execute(&mut self, instr: &Instr) -> Pending
+        ensures does { effect instr.now self.old ≡ doing_of result self.new }
         ensures kept { Keeps result self.old self.new }
         ensures place { HasPlace result self.old }
     {
-        if is_system_call(&instr) {
+        if is_system_call(instr) {
             return self.system_call();
         }
         match self.compute(instr) {
@@ -223,7 +224,7 @@ impl Machine {
             return Pending::Stick(Cause::Decode);
         };
         self.eip = start.wrapping_add(u32::from(size));
-        let pending = self.execute(instr);
+        let pending = self.execute(&instr);
         if !matches!(pending, Pending::Nothing) {
             self.eip = start;
         }

@@ -6,6 +6,7 @@ ghost use Rattle.i386_machine.specs.Machine.{filled, stack_region};
 ghost use Rattle.i386_machine.specs.Pieces.{region_of, HasNone, HasAt};
 ghost use Rattle.i386_machine.specs.Regions.{shapes, ApartFrom, Disjoint, shape_of, spans, writable, word_at, held_word_at, byte_at, store_word, store_byte, fetch, zeros};
 
+use crate::known::{Known, SLOTS, keep, known_at, no_slots};
 use i386_code::{Decoded, decode};
 use std::alloc::{AllocError, Global};
 use std::marker::Model;
@@ -23,9 +24,10 @@ struct Piece {
 #[derive(Drop)]
 pub(crate) struct Memory {
     pieces: Vec<Piece>,
-    // the places of the pieces that had the last data and the last code: tried first
+    // the place of the piece that had the last data: tried first
     last_data: usize,
-    last_code: usize,
+    // what was decoded
+    slots: Vec<Option<Known>>,
 }
 
 impl Model for Memory {
@@ -131,7 +133,7 @@ impl Memory {
         Ok(Memory {
             pieces,
             last_data: 0,
-            last_code: 0,
+            slots: no_slots(alloc, SLOTS)?,
         })
     }
 
@@ -183,11 +185,11 @@ impl Memory {
         self.pieces[index].writable
     }
 
-    /// The same as `instruction_at`, where the machine is only looked at.
+    /// What the bytes at an address in code begin with. None: the address is not in code.
     pub(crate) fn peek_instruction(&self, at: u32) -> Option<Decoded>
         ensures { result ≡ option_map decoded (fetch self.now at) }
     {
-        let Some(index) = locate(&self.pieces, self.last_code, at, 1) else {
+        let Some(index) = find(&self.pieces, at, 1) else {
             return None;
         };
         let piece = &self.pieces[index];
@@ -287,19 +289,27 @@ impl Memory {
         true
     }
 
-    /// What the bytes at an address in code begin with. None: the address is not in code.
+    // What is found there is kept for the next time, where no step can change it.
+    #[inline(never)]
+    fn decode_at(&mut self, at: u32) -> Option<Decoded>
+        ensures instruction { result ≡ option_map decoded (fetch self.old at) }
+        ensures same { self.new ≡ self.old }
+    {
+        let found = self.peek_instruction(at)?;
+        if !self.has_room(at) {
+            keep(&mut self.slots, at, found);
+        }
+        Some(found)
+    }
+
+    /// The same as `peek_instruction`, and faster where an instruction was found at this address before.
     pub(crate) fn instruction_at(&mut self, at: u32) -> Option<Decoded>
         ensures instruction { result ≡ option_map decoded (fetch self.old at) }
         ensures same { self.new ≡ self.old }
     {
-        let Some(index) = locate(&self.pieces, self.last_code, at, 1) else {
-            return None;
-        };
-        self.last_code = index;
-        let piece = &self.pieces[index];
-        if !piece.executable {
-            return None;
+        match known_at(&self.slots, at) {
+            Some(found) => Some(found),
+            None => self.decode_at(at),
         }
-        Some(decode(&piece.bytes[(at - piece.base) as usize..]))
     }
 }

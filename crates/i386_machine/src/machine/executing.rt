@@ -19,8 +19,9 @@ fn only_tests(op: AluOp) -> bool
 }
 
 impl Machine {
-    fn store(&mut self, to: Rm, word: u32) -> Result<(), Cause>
-        ensures does { goes (with_word self.old (place_of self.old to) word) ≡ goes (written result self.new) }
+    #[inline(always)]
+    fn store(&mut self, to: &Rm, word: u32) -> Result<(), Cause>
+        ensures does { goes (with_word self.old (place_of self.old to.now) word) ≡ goes (written result self.new) }
         ensures kept { OnErr result (self.new ≡ self.old) }
     {
         let place = self.place(to);
@@ -28,8 +29,8 @@ impl Machine {
         self.put_word(place, word, flags)
     }
 
-    fn store_byte(&mut self, to: Rm, from: Reg) -> Result<(), Cause>
-        ensures does { effect (Instr.StoreByte to from) self.old ≡ goes (written result self.new) }
+    fn store_byte(&mut self, to: &Rm, from: Reg) -> Result<(), Cause>
+        ensures does { effect (Instr.StoreByte to.now from) self.old ≡ goes (written result self.new) }
         ensures kept { OnErr result (self.new ≡ self.old) }
     {
         let place = self.place(to);
@@ -37,8 +38,8 @@ impl Machine {
         self.put_byte(place, byte)
     }
 
-    fn load(&mut self, to: Reg, from: Rm) -> Result<(), Cause>
-        ensures does { effect (Instr.Load to from) self.old ≡ goes (written result self.new) }
+    fn load(&mut self, to: Reg, from: &Rm) -> Result<(), Cause>
+        ensures does { effect (Instr.Load to from.now) self.old ≡ goes (written result self.new) }
         ensures kept { OnErr result (self.new ≡ self.old) }
     {
         let place = self.place(from);
@@ -47,8 +48,8 @@ impl Machine {
         Ok(())
     }
 
-    fn zero_byte(&mut self, to: Reg, from: Rm) -> Result<(), Cause>
-        ensures does { effect (Instr.ZeroByte to from) self.old ≡ goes (written result self.new) }
+    fn zero_byte(&mut self, to: Reg, from: &Rm) -> Result<(), Cause>
+        ensures does { effect (Instr.ZeroByte to from.now) self.old ≡ goes (written result self.new) }
         ensures kept { OnErr result (self.new ≡ self.old) }
     {
         let place = self.place(from);
@@ -57,8 +58,8 @@ impl Machine {
         Ok(())
     }
 
-    fn sign_byte(&mut self, to: Reg, from: Rm) -> Result<(), Cause>
-        ensures does { effect (Instr.SignByte to from) self.old ≡ goes (written result self.new) }
+    fn sign_byte(&mut self, to: Reg, from: &Rm) -> Result<(), Cause>
+        ensures does { effect (Instr.SignByte to from.now) self.old ≡ goes (written result self.new) }
         ensures kept { OnErr result (self.new ≡ self.old) }
     {
         let place = self.place(from);
@@ -67,15 +68,16 @@ impl Machine {
         Ok(())
     }
 
-    fn lea(&mut self, to: Reg, from: Address)
-        ensures { effect (Instr.Lea to from) self.old ≡ Goes self.new }
+    fn lea(&mut self, to: Reg, from: &Address)
+        ensures { effect (Instr.Lea to from.now) self.old ≡ Goes self.new }
     {
         let address = self.address(from);
         self.set(to, address);
     }
 
-    fn operate(&mut self, op: AluOp, to: Rm, second: u32) -> Result<(), Cause>
-        ensures does { operates (only_tests op) op (place_of self.old to) second self.old ≡ goes (written result self.new) }
+    #[inline(always)]
+    fn operate(&mut self, op: AluOp, to: &Rm, second: u32) -> Result<(), Cause>
+        ensures does { operates (only_tests op) op (place_of self.old to.now) second self.old ≡ goes (written result self.new) }
         ensures kept { OnErr result (self.new ≡ self.old) }
     {
         let place = self.place(to);
@@ -89,8 +91,8 @@ impl Machine {
         self.put_word(place, computed.word, Some(computed.flags))
     }
 
-    fn multiply(&mut self, to: Reg, from: Rm) -> Result<(), Cause>
-        ensures does { effect (Instr.Mul to from) self.old ≡ goes (written result self.new) }
+    fn multiply(&mut self, to: Reg, from: &Rm) -> Result<(), Cause>
+        ensures does { effect (Instr.Mul to from.now) self.old ≡ goes (written result self.new) }
         ensures kept { OnErr result (self.new ≡ self.old) }
     {
         let place = self.place(from);
@@ -101,8 +103,8 @@ impl Machine {
         Ok(())
     }
 
-    fn invert(&mut self, to: Rm) -> Result<(), Cause>
-        ensures does { effect (Instr.Not to) self.old ≡ goes (written result self.new) }
+    fn invert(&mut self, to: &Rm) -> Result<(), Cause>
+        ensures does { effect (Instr.Not to.now) self.old ≡ goes (written result self.new) }
         ensures kept { OnErr result (self.new ≡ self.old) }
     {
         let place = self.place(to);
@@ -111,8 +113,8 @@ impl Machine {
         self.put_word(place, 0xffff_ffff - word, flags)
     }
 
-    fn negate(&mut self, to: Rm) -> Result<(), Cause>
-        ensures does { effect (Instr.Neg to) self.old ≡ goes (written result self.new) }
+    fn negate(&mut self, to: &Rm) -> Result<(), Cause>
+        ensures does { effect (Instr.Neg to.now) self.old ≡ goes (written result self.new) }
         ensures kept { OnErr result (self.new ≡ self.old) }
     {
         let place = self.place(to);
@@ -120,8 +122,8 @@ impl Machine {
         self.put_word(place, 0u32.wrapping_sub(word), None)
     }
 
-    fn shift(&mut self, op: ShiftOp, to: Rm) -> Result<(), Cause>
-        ensures does { effect (Instr.Shift op to) self.old ≡ goes (written result self.new) }
+    fn shift(&mut self, op: ShiftOp, to: &Rm) -> Result<(), Cause>
+        ensures does { effect (Instr.Shift op to.now) self.old ≡ goes (written result self.new) }
         ensures kept { OnErr result (self.new ≡ self.old) }
     {
         let place = self.place(to);
@@ -144,8 +146,8 @@ impl Machine {
         Ok(())
     }
 
-    fn divide(&mut self, by: Rm) -> Result<(), Cause>
-        ensures does { effect (Instr.Div by) self.old ≡ goes (written result self.new) }
+    fn divide(&mut self, by: &Rm) -> Result<(), Cause>
+        ensures does { effect (Instr.Div by.now) self.old ≡ goes (written result self.new) }
         ensures kept { OnErr result (self.new ≡ self.old) }
     {
         let place = self.place(by);
@@ -154,8 +156,8 @@ impl Machine {
         self.put_division(division)
     }
 
-    fn divide_signed(&mut self, by: Rm) -> Result<(), Cause>
-        ensures does { effect (Instr.SignDiv by) self.old ≡ goes (written result self.new) }
+    fn divide_signed(&mut self, by: &Rm) -> Result<(), Cause>
+        ensures does { effect (Instr.SignDiv by.now) self.old ≡ goes (written result self.new) }
         ensures kept { OnErr result (self.new ≡ self.old) }
     {
         let place = self.place(by);
@@ -257,8 +259,8 @@ impl Machine {
         Ok(())
     }
 
-    fn set_if(&mut self, cond: Cond, to: Rm) -> Result<(), Cause>
-        ensures does { effect (Instr.SetIf cond to) self.old ≡ goes (written result self.new) }
+    fn set_if(&mut self, cond: Cond, to: &Rm) -> Result<(), Cause>
+        ensures does { effect (Instr.SetIf cond to.now) self.old ≡ goes (written result self.new) }
         ensures kept { OnErr result (self.new ≡ self.old) }
     {
         let place = self.place(to);
@@ -268,32 +270,32 @@ impl Machine {
     }
 
     // What any instruction but a system call does, where eip is past it already.
-    pub(super) fn compute(&mut self, instr: Instr) -> Result<(), Cause>
-        requires { is_system_call instr ≡ false }
-        ensures does { effect instr self.old ≡ goes (written result self.new) }
+    pub(super) fn compute(&mut self, instr: &Instr) -> Result<(), Cause>
+        requires { is_system_call instr.now ≡ false }
+        ensures does { effect instr.now self.old ≡ goes (written result self.new) }
         ensures kept { OnErr result (self.new ≡ self.old) }
     {
         match instr {
-            Instr::StoreByte { to, from } => self.store_byte(to, from),
-            Instr::Store { to, from } => self.store(to, self.register(from)),
-            Instr::Load { to, from } => self.load(to, from),
+            Instr::StoreByte { to, from } => self.store_byte(to, *from),
+            Instr::Store { to, from } => self.store(to, self.register(*from)),
+            Instr::Load { to, from } => self.load(*to, from),
             Instr::LoadImm { to, value } => {
-                self.set(to, value);
+                self.set(*to, *value);
                 Ok(())
             }
-            Instr::StoreImm { to, value } => self.store(to, value),
-            Instr::ZeroByte { to, from } => self.zero_byte(to, from),
-            Instr::SignByte { to, from } => self.sign_byte(to, from),
+            Instr::StoreImm { to, value } => self.store(to, *value),
+            Instr::ZeroByte { to, from } => self.zero_byte(*to, from),
+            Instr::SignByte { to, from } => self.sign_byte(*to, from),
             Instr::Lea { to, from } => {
-                self.lea(to, from);
+                self.lea(*to, from);
                 Ok(())
             }
-            Instr::Alu { op, to, from } => self.operate(op, to, self.register(from)),
-            Instr::AluImm { op, to, value } => self.operate(op, to, value),
+            Instr::Alu { op, to, from } => self.operate(*op, to, self.register(*from)),
+            Instr::AluImm { op, to, value } => self.operate(*op, to, *value),
             Instr::AluShort { op, to, value } => {
-                self.operate(op, to, i32::from(value).cast_unsigned())
+                self.operate(*op, to, i32::from(*value).cast_unsigned())
             }
-            Instr::Mul { to, from } => self.multiply(to, from),
+            Instr::Mul { to, from } => self.multiply(*to, from),
             Instr::Not { to } => self.invert(to),
             Instr::Neg { to } => self.negate(to),
             Instr::Div { to } => self.divide(to),
@@ -302,21 +304,23 @@ impl Machine {
                 self.extend_sign();
                 Ok(())
             }
-            Instr::Shift { op, to } => self.shift(op, to),
-            Instr::Push { from } => self.push(self.register(from)),
-            Instr::Pop { to } => self.pop_to(to),
-            Instr::Call { by } => self.call(by),
+            Instr::Shift { op, to } => self.shift(*op, to),
+            Instr::Push { from } => self.push(self.register(*from)),
+            Instr::Pop { to } => self.pop_to(*to),
+            Instr::Call { by } => self.call(*by),
             Instr::Jump { by } => {
-                self.jump(by);
+                self.jump(*by);
                 Ok(())
             }
-            Instr::JumpIf { cond, by } => self.jump_if(cond, by),
+            Instr::JumpIf { cond, by } => self.jump_if(*cond, *by),
             Instr::JumpShort { by } => {
-                self.jump(i32::from(by).cast_unsigned());
+                self.jump(i32::from(*by).cast_unsigned());
                 Ok(())
             }
-            Instr::JumpIfShort { cond, by } => { self.jump_if(cond, i32::from(by).cast_unsigned()) }
-            Instr::SetIf { cond, to } => self.set_if(cond, to),
+            Instr::JumpIfShort { cond, by } => {
+                self.jump_if(*cond, i32::from(*by).cast_unsigned())
+            }
+            Instr::SetIf { cond, to } => self.set_if(*cond, to),
             Instr::Ret => self.return_to(),
             Instr::Interrupt { .. } => Err(Cause::System),
         }

@@ -46,24 +46,25 @@ impl Machine {
         }
     }
 
-    pub(super) fn address(&self, address: Address) -> u32
-        ensures { result ≡ address_of self.now address }
+    pub(super) fn address(&self, address: &Address) -> u32
+        ensures { result ≡ address_of self.now address.now }
     {
         let base = self.base_word(address.base);
         let index = self.index_word(address.index);
         base.wrapping_add(index).wrapping_add(address.disp)
     }
 
-    pub(super) fn place(&self, operand: Rm) -> Place
-        ensures { result ≡ place_of self.now operand }
+    pub(super) fn place(&self, operand: &Rm) -> Place
+        ensures { result ≡ place_of self.now operand.now }
     {
         match operand {
-            Rm::Reg(reg) => Place::Register(reg),
+            Rm::Reg(reg) => Place::Register(*reg),
             Rm::Mem(address) => Place::Memory(self.address(address)),
         }
     }
 
     // The word in a place.
+    #[inline(always)]
     pub(super) fn word_in(&mut self, place: Place) -> Result<u32, Cause>
         ensures word { result ≡ word_in self.old place }
         ensures same { self.new ≡ self.old }
@@ -78,6 +79,7 @@ impl Machine {
     }
 
     // The word in a place that is written too.
+    #[inline(always)]
     pub(super) fn held_in(&mut self, place: Place) -> Result<u32, Cause>
         ensures word { result ≡ held_in self.old place }
         ensures same { self.new ≡ self.old }
@@ -123,6 +125,7 @@ impl Machine {
     }
 
     // Writes a word in a place and sets the flags, or changes nothing.
+    #[inline(always)]
     pub(super) fn put_word(
         &mut self,
         place: Place,

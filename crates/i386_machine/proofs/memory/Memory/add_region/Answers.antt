@@ -4,6 +4,8 @@ use Rattle.i386_machine.specs.Pieces.{region_of, EndsWithin}
 use Rattle.i386_machine.specs.Regions.{Region, shape_of, shapes, ApartFrom, Disjoint, zeros, length-zeros}
 use Rattle.i386_machine.proofs.Accesses.{shapes_push, ends_push}
 use Rattle.i386_machine.specs.Laws.{disjoint_push}
+use Rattle.i386_machine.specs.Known.{AllKnown}
+use Rattle.i386_machine.proofs.Kept.{AllKnown_pushed}
 use Rattle.i386_machine.proofs.memory.Memory.add_region.Goals as goal
 
 pub invariant_of-self-2 : goal.invariant_of-self-2
@@ -20,7 +22,8 @@ invariant_of-self-2 c =
       apart = subst (λ (ps : List Piece). Disjoint (shapes (map region_of ps))) (sym pushed) (subst Disjoint (sym (shapes_push c.self.inside.pieces.items p)) (disjoint_push (shape_of (region_of p)) (shapes (map region_of c.self.inside.pieces.items)) c.self.invariant.apart apart));
       ends = subst (λ (ps : List Piece). EndsWithin (shapes (map region_of ps))) (sym pushed) (subst EndsWithin (sym (shapes_push c.self.inside.pieces.items p)) (ends_push (shape_of (region_of p)) (shapes (map region_of c.self.inside.pieces.items)) c.self.invariant.ends low));
       data_within = let l = c.self.invariant.data_within in omega (arith, ap length pushed, length-append c.self.inside.pieces.items (p ∷ []));
-      code_within = let l = c.self.invariant.code_within in omega (arith, ap length pushed, length-append c.self.inside.pieces.items (p ∷ []));
+      slots = c.self.invariant.slots;
+      known = subst (λ (ps : List Piece). AllKnown (map region_of ps) c.self.inside.slots.items) (sym pushed) (AllKnown_pushed c.self.inside.pieces.items p c.self.inside.slots.items apart c.self.invariant.known);
     }
 
 pub returns-clause-shape : goal.returns-clause-shape

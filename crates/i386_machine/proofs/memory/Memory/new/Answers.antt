@@ -15,7 +15,8 @@ invariant_of-result c =
       apart = subst (λ (ps : List Piece). Disjoint (shapes (map region_of ps))) (sym pushed) (tt, tt);
       ends = subst (λ (ps : List Piece). EndsWithin (shapes (map region_of ps))) (sym pushed) (low, tt);
       data_within = omega (arith, ap length pushed);
-      code_within = omega (arith, ap length pushed);
+      slots = c.in_ok-no_slots.ensures.length;
+      known = c.in_ok-no_slots.ensures.known (map region_of c.push.new.self.items);
     }
 
 pub returns-clause-shape : goal.returns-clause-shape

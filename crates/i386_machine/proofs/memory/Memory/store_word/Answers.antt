@@ -6,6 +6,7 @@ use Rattle.i386_machine.specs.declared.memory.Piece.{Piece}
 use Rattle.i386_machine.specs.Pieces.{region_of, HasNone, HasAt, EndsWithin}
 use Rattle.i386_machine.specs.Regions.{Region, store_word, Disjoint}
 use Rattle.i386_machine.proofs.Accesses.{store_word_none, store_word_at, store_word_refused, same_shapes}
+use Rattle.i386_machine.proofs.Kept.{AllKnown_stored}
 use Rattle.i386_machine.proofs.memory.Memory.store_word.Goals as goal
 
 pub returns-in_default-clause-stored : goal.returns-in_default-clause-stored
@@ -34,7 +35,8 @@ invariant_of-self-2 c =
       apart = subst Disjoint same c.self.invariant.apart;
       ends = subst EndsWithin same c.self.invariant.ends;
       data_within = let w = h.within in omega (arith, length-set c.self.inside.pieces.items c.in-Some.index new);
-      code_within = let w = c.self.invariant.code_within in omega (arith, length-set c.self.inside.pieces.items c.in-Some.index new);
+      slots = c.self.invariant.slots;
+      known = AllKnown_stored c.self.inside.pieces.items c.args.at 4 c.in-Some.index p new c.put_word.new.bytes c.self.inside.slots.items c.index_mut-piece.ensures.value h c.if-not-piece.false is (c.put_word.auto.bytes ∙ ap length bytes) c.self.invariant.known;
     }
 
 pub returns-clause-stored : goal.returns-clause-stored
