@@ -9,7 +9,6 @@ use Rattle.cc_base.specs.declared.run.Outcome.TheVariants as outcome
 use Rattle.pass_core.specs.Semantics.{Semantics, run_of, spent_of, halting}
 use Rattle.block_mem.specs.Blocks.{Blocks, made, ended}
 use Rattle.block_mem.specs.Access.{store}
-use Rattle.block_mem.specs.Operators.{applied}
 use Rattle.block_mem.specs.Start.{start}
 use Rattle.block_mem.specs.declared.value.BlockName.TheVariants.{Local}
 use Rattle.block_mem.specs.declared.value.Value.{Value}
@@ -33,7 +32,7 @@ use Rattle.clight_sem.specs.declared.destination.Destination.{Destination}
 use Rattle.clight_sem.specs.declared.destination.Destination.TheVariants as to
 use Rattle.clight_sem.specs.declared.meaning.Meaning.{Meaning}
 use Rattle.clight_sem.specs.declared.meaning.Meaning.TheVariants as meaning
-use Rattle.clight_sem.specs.Values.{Scene, value_of, place_of, holds, converted, all_converted}
+use Rattle.clight_sem.specs.Values.{Scene, convert, value_of, place_of, holds, converted, all_converted}
 use Rattle.clight_sem.specs.Functions.{Linked, linked, all_parts, callee_at, function_at, main_of, is_main_of, has_no_result}
 use Rattle.clight_sem.specs.States.{Item, Whole, Alone, Again, TestOfDo, TestOfFor, StepOfFor, whole, alone, behind_loop, from_loop, Frame, World, Turned, On, Asks, Gives, Ends, Run, Going, Over, seen, wrong, on, scene_of, with_left, before, needs}
 use Rattle.clight_sem.specs.Prices.{price}
@@ -62,8 +61,8 @@ stored w width place (Some v) = option_map (λ m. record w { memory = m }) (stor
 -- the newest call gets a value
 abbrev pub given : Destination → Value → World → Option World
 given to.Nowhere v w = Some w
-given (to.Temporary k conversion) v w = set_temporary w k (applied w.memory conversion v (Int 0))
-given (to.Place width place conversion) v w = stored w width place (applied w.memory conversion v (Int 0))
+given (to.Temporary k conversion) v w = set_temporary w k (convert conversion v)
+given (to.Place width place conversion) v w = stored w width place (convert conversion v)
 
 -- Assignments: the place, the value, then the store
 

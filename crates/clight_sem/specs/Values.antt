@@ -5,14 +5,15 @@ use Rattle.cc_base.specs.Words.{add32}
 use Rattle.block_mem.specs.Arithmetic.{bit}
 use Rattle.block_mem.specs.Blocks.{Blocks}
 use Rattle.block_mem.specs.Access.{load}
-use Rattle.block_mem.specs.Operators.{applied}
+use Rattle.block_mem.specs.Integers.{on_word}
+use Rattle.block_mem.specs.Operators.{of_word, applied}
 use Rattle.block_mem.specs.declared.value.BlockName.{BlockName}
 use Rattle.block_mem.specs.declared.value.BlockName.TheVariants.{Local}
 use Rattle.block_mem.specs.declared.value.Value.{Value}
 use Rattle.block_mem.specs.declared.value.Value.TheVariants.{Int, Ptr}
 use Rattle.block_mem.specs.declared.value.Width.{Width}
 use Rattle.block_mem.specs.declared.operator.Op.{Op}
-use Rattle.block_mem.specs.declared.operator.Op.TheVariants.{PtrAdd}
+use Rattle.block_mem.specs.declared.operator.Op.TheVariants.{Keep, PtrAdd}
 use Rattle.clight_unit.specs.declared.expression.Expression.{Expression}
 use Rattle.clight_unit.specs.declared.expression.Expression.TheOpen.{Expression-F, Test-F, Place-F}
 use Rattle.clight_unit.specs.declared.expression.Expression.TheFolds.{fold-Expression, fold-Test, fold-Place}
@@ -112,9 +113,17 @@ place_of s = fold-Place (Option Value) (Option Value) (Option Bool) (expression_
 abbrev pub holds : Scene → Test → Option Bool
 holds s = fold-Test (Option Value) (Option Value) (Option Bool) (expression_step s) (place_step s) (test_step s)
 
--- a value that is converted to the type of where it goes
+-- a value converted to the type of where it goes (C11, 6.3.1.3)
+abbrev pub convert : Op → Value → Option Value
+convert Keep v = Some v
+convert op v = of_word (on_word op) v
+
+abbrev pub convert_if : Op → Option Value → Option Value
+convert_if op None = None
+convert_if op (Some v) = convert op v
+
 abbrev pub converted : Scene → Converted → Option Value
-converted s v = of_one s.memory v.conversion (value_of s v.expression)
+converted s v = convert_if v.conversion (value_of s v.expression)
 
 -- values from left to right
 abbrev pub with_value : Option Value → Option (List Value) → Option (List Value)
