@@ -1,0 +1,6 @@
+pub mod Values
+pub mod Functions
+pub mod States
+pub mod Turns
+pub mod Prices
+pub mod Laws
