@@ -189,6 +189,7 @@ gives 'a closed report' 6 '' sh -c './ccelf run 1000 build/two 2>&-'
 gives 'a closed input that is not read' 0 'exit 3' sh -c './ccelf run 1000 build/two <&-'
 if [ -c /dev/full ]; then
     gives 'a full output' 6 '' sh -c './ccelf run 1000 build/two >/dev/full'
+    gives 'a full output of show' 6 '' sh -c './ccelf show main.c >/dev/full'
     gives 'a full report' 6 '' sh -c './ccelf run 1000 build/two 2>/dev/full'
 else
     skip 'full outputs: no /dev/full'
@@ -212,6 +213,10 @@ gives 'a unit of 65,536 bytes' 0 'exit 0' ./ccelf exec 1000 build/wide wide.c
 printf ' ' >>wide.c
 gives 'a unit of 65,537 bytes' 9 'wide.c: limit form' ./ccelf exec 1000 build/wide wide.c
 head -c 134217729 /dev/zero >long.c
+head -c 1048577 /dev/zero | tr '\0' ' ' >text.c
+gives 'a text of 1,048,577 bytes' 9 'text.c: limit text' ./ccelf exec 1000 build/text text.c
+head -c 1048576 /dev/zero | tr '\0' ' ' >text.c
+gives 'a text of 1,048,576 bytes' 9 'text.c: limit form' ./ccelf exec 1000 build/text text.c
 gives 'a file of 134,217,729 bytes' 9 'long.c: limit file' ./ccelf exec 1000 build/long long.c
 rm long.c
 

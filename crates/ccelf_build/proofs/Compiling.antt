@@ -12,6 +12,9 @@ module _ (unit object : List ℕ) (files : Contents) (old : Outside) (there : Te
   from_unit : (new : Outside) (e : Answer) → UnitRow files unit object old e new → compile_told unit object files old e new
   from_unit new (answer.Missing which) h = h
   from_unit new (answer.LimitFile which) h = h
+  from_unit new (answer.LimitText which) h = h
+  from_unit new (answer.LimitDeep which at) h = h
+  from_unit new (answer.Syntax which kind at) h = h
   from_unit new (answer.LimitForm which) h = h
   from_unit new answer.ReadFault h = h
   from_unit new answer.WriteFault h = h

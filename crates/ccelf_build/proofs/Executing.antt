@@ -45,6 +45,9 @@ module _ (laws : Laws) (steps : ℕ) (image : List ℕ) (units : List (List ℕ)
   from_units : (new : Outside) (e : Answer) → UnitsRow files files units old e new → exec_told steps image units files input old e new
   from_units new (answer.Missing which) h = h
   from_units new (answer.LimitFile which) h = h
+  from_units new (answer.LimitText which) h = h
+  from_units new (answer.LimitDeep which at) h = h
+  from_units new (answer.Syntax which kind at) h = h
   from_units new (answer.LimitForm which) h = h
   from_units new answer.ReadFault h = inl (some_put new h)
   from_units new answer.WriteFault h = inl (some_put new h)

@@ -4,11 +4,12 @@ use Rattle.std.specs.FinMap.{insert}
 use Rattle.std.proofs.lemmas.List.{map-append}
 use Rattle.cc_base.specs.Seen.{FilesSeen}
 use Rattle.elf_file.specs.declared.image.ImageParts.{ImageParts}
-use Rattle.command_words.specs.Commands.{Request, Compile, Link, Run, Exec, object_name}
+use Rattle.command_words.specs.Commands.{Request, Compile, Link, Run, Show, Exec, object_name}
 use Rattle.commands.specs.declared.answer.Answer.{Answer}
 use Rattle.commands.specs.declared.answer.Answer.TheVariants as answer
 use Rattle.commands.specs.Doing.{Outside, Step, Command, Then, AndThen, Each}
-use Rattle.commands.specs.Steps.{Fetches, Stores, Compiles, Keeps, CompilesTo, Links, Runs, RunsBy}
+use Rattle.clight_print.specs.Canonical.{canonical_text}
+use Rattle.commands.specs.Steps.{Fetches, Stores, Parses, GivesOut, Compiles, Keeps, CompilesTo, Links, Runs, RunsBy}
 use Rattle.commands.specs.Does.{does}
 use Rattle.ccelf_build.specs.Contents.{Contents, NamedBytes, put_all}
 use Rattle.ccelf_build.specs.Kept.{names_put, Kept}
@@ -95,6 +96,12 @@ fetch_puts name = ((λ old new a h. none_put old.files new.files (told_same _ _ 
     fails old new answer.ReadFault h = none_kept [] old.files new.files (told_same _ _ h.0.others)
     fails old new answer.Memory h = none_kept [] old.files new.files (told_same _ _ h.0)
     fails old new _ h = absurd h.0
+
+parse_puts : (name text : List ℕ) → Puts [] (Parses name text)
+parse_puts name text = ((λ old new a h. none_put old.files new.files (files_same _ _ h.1)), (λ old new e h. none_kept [] old.files new.files (files_same _ _ h.1)))
+
+give_puts : (text : List ℕ) → Puts [] (GivesOut text)
+give_puts text = ((λ old new a h. none_put old.files new.files (files_same _ _ h.1)), (λ old new e h. none_kept [] old.files new.files (files_same _ _ h.1)))
 
 compile_puts : (name text : List ℕ) → Puts [] (Compiles name text)
 compile_puts name text = ((λ old new a h. none_put old.files new.files (files_same _ _ h.1)), (λ old new e h. none_kept [] old.files new.files (files_same _ _ h.1)))
@@ -187,6 +194,11 @@ kept (Link image objects) =
     then_puts [] (image ∷ []) (Links objects files) _ (link_puts objects files) (λ bytes.
     then_puts (image ∷ []) [] (Stores image bytes) _ (store_puts image bytes) (λ _ old new e h. none_kept [] old.files new.files (files_same _ _ h.1))))
 kept (Run steps image) = then_puts [] [] (Fetches image) _ (fetch_puts image) (λ bytes. runs_puts steps image bytes)
+kept (Show unit) =
+    then_puts [] [] (Fetches unit) _ (fetch_puts unit) (λ text.
+    then_puts [] [] (Parses unit text) _ (parse_puts unit text) (λ tree.
+    then_puts [] [] (Keeps (canonical_text tree)) _ (keep_puts (canonical_text tree)) (λ shown.
+    then_puts [] [] (GivesOut shown) _ (give_puts shown) (λ _ old new e h. none_kept [] old.files new.files (files_same _ _ h.1)))))
 kept (Exec steps image units) =
     let P : List (List ℕ) → Type 0 = λ ns. Puts ns (Each (λ unit. CompilesTo unit (object_name unit)) units) in
     then_puts (map object_name units) (image ∷ []) (Each (λ unit. CompilesTo unit (object_name unit)) units) _

@@ -1,4 +1,3 @@
-pub mod Growing
 pub mod Runnings
 pub mod Chains
 pub mod Raising
@@ -15,6 +14,7 @@ pub mod Executing
 pub mod Compiling
 pub mod Linking
 pub mod Running
+pub mod Showing
 pub mod Statuses
 pub mod Reasons
 pub mod OneReason

@@ -1,10 +1,14 @@
 -- A status has its reason only where no other status has one.
-use Rattle.std.proofs.Common.{◌≡◌, ◌⊎◌, ◌<◌, ◌≤◌, ◌∷◌, [], ℕ, List, Option, Some, None, length, refl, inl, inr, ap, ◌∙◌, sym, subst, arith}
+use Rattle.std.proofs.Common.{◌≡◌, ◌⊎◌, ◌<◌, ◌≤◌, ◌∷◌, [], ℕ, List, Option, Some, None, Result, Ok, Err, length, refl, inl, inr, ap, ◌∙◌, sym, subst, arith}
 use Rattle.std.specs.FinMap.{get}
 use Rattle.std.proofs.lemmas.Option.{same_Some, none-some}
 use Rattle.cc_base.specs.Outside.{file_limit}
 use Rattle.cc_base.specs.declared.run.Outcome.{Outcome}
 use Rattle.cc_base.specs.declared.run.Outcome.TheVariants as outcome
+use Rattle.clight_text.specs.declared.tree.External.{External}
+use Rattle.clight_text.specs.declared.fault.SyntaxFault.{SyntaxFault}
+use Rattle.clight_text.specs.declared.fault.SyntaxFault.TheVariants as syntax
+use Rattle.clight_parser.specs.Parsing.{HasAnswer, OneAnswer}
 use Rattle.clight_syntax.specs.declared.second_items.Item.{Item}
 use Rattle.clight_syntax.specs.SecondForm.{IsSecondForm}
 use Rattle.clight_syntax.specs.SecondFaults.{source_fault, SourceFault}
@@ -19,13 +23,14 @@ use Rattle.elf_linker.specs.declared.fault.LinkFault.TheVariants as linking
 use Rattle.image_loader.specs.Load.{load_fault, image_after}
 use Rattle.image_loader.specs.declared.fault.LoadFault.{LoadFault}
 use Rattle.second_code.specs.LinkedObjects.{linked_objects}
+use Rattle.commands.specs.declared.answer.SyntaxKind.TheVariants as kind
 use Rattle.commands.specs.declared.answer.Status.{Status}
 use Rattle.commands.specs.declared.answer.Status.TheVariants as status
-use Rattle.commands.specs.Steps.{IsObjectFile, AreObjectFiles, IsNoObject, IsFirstNoObject, this, later}
+use Rattle.commands.specs.Steps.{IsText, IsNoUnit, IsObjectFile, AreObjectFiles, IsNoObject, IsFirstNoObject, this, later}
 use Rattle.ccelf_build.specs.Contents.{Contents, StandsAt, IsAbsent, IsLong, AreAll, FirstStop}
 use Rattle.ccelf_build.specs.Laws.{Laws}
-use Rattle.ccelf_build.specs.Told.{Compiled, IsCompiled, HasNoUnit, AreObjectsAt, IsLoaded, HasNoImage, IsNotLoaded, items_of}
-use Rattle.ccelf_build.specs.Causes.{compile_reason, link_reason, run_reason, refusal, IsProgram, AllCompiled}
+use Rattle.ccelf_build.specs.Told.{Compiled, IsCompiled, HasNoUnit, HasFault, AreObjectsAt, IsLoaded, HasNoImage, IsNotLoaded, items_of}
+use Rattle.ccelf_build.specs.Causes.{PassesLimit, HasSyntaxFault, compile_reason, show_reason, link_reason, run_reason, refusal, IsProgram, AllCompiled}
 use Rattle.ccelf_build.proofs.Listing.{one_all, none_stops, same_stop, stop_for}
 
 both_there : (t : Option (List ℕ)) (a b : List ℕ) → t ≡ Some a → t ≡ Some b → a ≡ b
@@ -47,38 +52,108 @@ module _ (files : Contents) where
   absent_long : (name : List ℕ) → IsAbsent files name → IsLong files name → ⊥
   absent_long name h k = none_there (get files name) k.0 h k.1
 
-  unit_none : (name : List ℕ) (made : Compiled) → IsCompiled files name made → HasNoUnit files name → ⊥
-  unit_none name made h k =
-      let P : List ℕ → Type 0 = λ text. IsSecondForm text made.items in
-      k.2 made.items (subst P (one_file name h.text k.0 h.stands k.1) h.form)
+-- compile and show: what stands under the unit's name decides the status
+abbrev syntax_status : SyntaxFault → Status
+syntax_status syntax.Long = status.Limit
+syntax_status (syntax.Deep at) = status.Limit
+syntax_status syntax.Memory = status.Memory
+syntax_status _ = status.Syntax
 
-  absent_none : (name : List ℕ) → IsAbsent files name → HasNoUnit files name → ⊥
-  absent_none name h k = stands_absent name k.0 k.1 h
+-- the kinds of reasons, where so says what a unit's text comes to
+data TextKind (unit : List ℕ) (files : Contents) (so : List ℕ → Status → Type 0) (s : Status) : Type 0 where
+  is_absent : IsAbsent files unit → s ≡ status.Missing → TextKind unit files so s
+  is_long : IsLong files unit → s ≡ status.Limit → TextKind unit files so s
+  is_faulty : (fault : SyntaxFault) → (fault ≡ syntax.Memory → ⊥) → HasFault files unit fault → s ≡ syntax_status fault → TextKind unit files so s
+  is_read : (text : List ℕ) → StandsAt files unit text → IsText text → so text s → TextKind unit files so s
 
--- compile
-module _ (unit : List ℕ) (files : Contents) where
-  stop_not_made : (made : Compiled) → IsCompiled files unit made → IsLong files unit ⊎ HasNoUnit files unit → ⊥
-  stop_not_made made h (inl k) = stands_long files unit h.text h.stands k
-  stop_not_made made h (inr k) = unit_none files unit made h k
+module _ (unit : List ℕ) (files : Contents) (so : List ℕ → Status → Type 0) where
+  limit_kind : PassesLimit files unit → TextKind unit files so status.Limit
+  limit_kind (inl h) = is_long h refl
+  limit_kind (inr (inl h)) = is_faulty syntax.Long (λ e. cc) h refl
+  limit_kind (inr (inr h)) = is_faulty (syntax.Deep h.0) (λ e. cc) h.1 refl
 
-  absent_not : IsAbsent files unit → IsLong files unit ⊎ HasNoUnit files unit → ⊥
-  absent_not h (inl k) = absent_long files unit h k
-  absent_not h (inr k) = absent_none files unit h k
+  syntax_kind : HasSyntaxFault files unit → TextKind unit files so status.Syntax
+  syntax_kind (kind.Char, h) = is_faulty (syntax.Char h.0) (λ e. cc) h.1 refl
+  syntax_kind (kind.Literal, h) = is_faulty (syntax.Literal h.0) (λ e. cc) h.1 refl
+  syntax_kind (kind.Token, h) = is_faulty (syntax.Token h.0) (λ e. cc) h.1 refl
+
+module _ (laws : Laws) (unit : List ℕ) (files : Contents) where
+  one_fault : (f g : SyntaxFault) → (f ≡ syntax.Memory → ⊥) → (g ≡ syntax.Memory → ⊥) → OneAnswer (Err f) (Err g) → f ≡ g
+  one_fault f g p q (inl e) = absurd (p (let k : ◌≡◌ {A = Result (List External) SyntaxFault} (Err f) (Err syntax.Memory) = e in cc))
+  one_fault f g p q (inr (inl e)) = absurd (q (let k : ◌≡◌ {A = Result (List External) SyntaxFault} (Err g) (Err syntax.Memory) = e in cc))
+  one_fault f g p q (inr (inr e)) = let k : ◌≡◌ {A = Result (List External) SyntaxFault} (Err f) (Err g) = e in cc
+
+  no_fault : (f : SyntaxFault) (tree : List External) → (f ≡ syntax.Memory → ⊥) → OneAnswer (Err f) (Ok tree) → ⊥
+  no_fault f tree p (inl e) = p (let k : ◌≡◌ {A = Result (List External) SyntaxFault} (Err f) (Err syntax.Memory) = e in cc)
+  no_fault f tree p (inr (inl e)) = let k : ◌≡◌ {A = Result (List External) SyntaxFault} (Ok tree) (Err syntax.Memory) = e in absurd (cc (k))
+  no_fault f tree p (inr (inr e)) = let k : ◌≡◌ {A = Result (List External) SyntaxFault} (Err f) (Ok tree) = e in absurd (cc (k))
+
+  same_fault : (f g : SyntaxFault) → (f ≡ syntax.Memory → ⊥) → (g ≡ syntax.Memory → ⊥) → HasFault files unit f → HasFault files unit g → f ≡ g
+  same_fault f g p q h k =
+      let P : List ℕ → Type 0 = λ text. HasAnswer text (Err g) in
+      one_fault f g p q (laws.one_answer h.0 (Err f) (Err g) h.2 (subst P (one_file files unit k.0 h.0 k.1 h.1) k.2))
+
+  fault_not_text : (f : SyntaxFault) → (f ≡ syntax.Memory → ⊥) → HasFault files unit f → (text : List ℕ) → StandsAt files unit text → IsText text → ⊥
+  fault_not_text f p h text k is =
+      let P : List ℕ → Type 0 = λ t. HasAnswer t (Err f) in
+      no_fault f is.0 p (laws.one_answer text (Err f) (Ok is.0) (subst P (one_file files unit h.0 text h.1 k) h.2) is.1)
+
+  one_text : (so : List ℕ → Status → Type 0) → ((text : List ℕ) (s t : Status) → so text s → so text t → s ≡ t) → (s t : Status) → TextKind unit files so s → TextKind unit files so t → s ≡ t
+  one_text so one s t (is_absent h e) (is_absent k f) = e ∙ sym f
+  one_text so one s t (is_absent h e) (is_long k f) = absurd (absent_long files unit h k)
+  one_text so one s t (is_absent h e) (is_faulty fault q k f) = absurd (stands_absent files unit k.0 k.1 h)
+  one_text so one s t (is_absent h e) (is_read text k is r) = absurd (stands_absent files unit text k h)
+  one_text so one s t (is_long h e) (is_absent k f) = absurd (absent_long files unit k h)
+  one_text so one s t (is_long h e) (is_long k f) = e ∙ sym f
+  one_text so one s t (is_long h e) (is_faulty fault q k f) = absurd (stands_long files unit k.0 k.1 h)
+  one_text so one s t (is_long h e) (is_read text k is r) = absurd (stands_long files unit text k h)
+  one_text so one s t (is_faulty fault p h e) (is_absent k f) = absurd (stands_absent files unit h.0 h.1 k)
+  one_text so one s t (is_faulty fault p h e) (is_long k f) = absurd (stands_long files unit h.0 h.1 k)
+  one_text so one s t (is_faulty fault p h e) (is_faulty other q k f) = e ∙ ap syntax_status (same_fault fault other p q h k) ∙ sym f
+  one_text so one s t (is_faulty fault p h e) (is_read text k is r) = absurd (fault_not_text fault p h text k is)
+  one_text so one s t (is_read text h is r) (is_absent k f) = absurd (stands_absent files unit text h k)
+  one_text so one s t (is_read text h is r) (is_long k f) = absurd (stands_long files unit text h k)
+  one_text so one s t (is_read text h is r) (is_faulty fault q k f) = absurd (fault_not_text fault q k text h is)
+  one_text so one s t (is_read text h is r) (is_read other k is' r') =
+      let P : List ℕ → Type 0 = λ x. so x t in one text s t r (subst P (one_file files unit other text k h) r')
+
+  -- what a unit's text comes to in compile: it is of the form, or it is not
+  abbrev Formed : List ℕ → Status → Type 0
+  Formed text s = ((s ≡ status.Limit) × IsNoUnit text) ⊎ ((s ≡ status.Done) × ((items : List Item) × IsSecondForm text items))
+
+  one_form : (text : List ℕ) (s t : Status) → Formed text s → Formed text t → s ≡ t
+  one_form text s t (inl h) (inl k) = h.0 ∙ sym k.0
+  one_form text s t (inl h) (inr k) = absurd (h.1 k.1.0 k.1.1)
+  one_form text s t (inr h) (inl k) = absurd (k.1 h.1.0 h.1.1)
+  one_form text s t (inr h) (inr k) = h.0 ∙ sym k.0
+
+  form_limit : PassesLimit files unit ⊎ HasNoUnit files unit → TextKind unit files Formed status.Limit
+  form_limit (inl h) = limit_kind unit files Formed h
+  form_limit (inr h) = is_read h.0 h.1 h.2 (inl (refl, h.3))
+
+  compile_kind : (s : Status) → compile_reason unit files s → TextKind unit files Formed s
+  compile_kind status.Missing h = is_absent h refl
+  compile_kind status.Syntax h = syntax_kind unit files Formed h
+  compile_kind status.Limit h = form_limit h
+  compile_kind status.Done h = is_read h.1.text h.1.stands h.1.is_text (inr (refl, (h.0.items, h.1.form)))
+  compile_kind _ h = absurd h
 
   pub compile_one : (s t : Status) → compile_reason unit files s → compile_reason unit files t → s ≡ t
-  compile_one status.Missing status.Missing h k = refl
-  compile_one status.Missing status.Limit h k = absurd (absent_not h k)
-  compile_one status.Missing status.Done h k = absurd (stands_absent files unit k.1.text k.1.stands h)
-  compile_one status.Missing _ h k = absurd k
-  compile_one status.Limit status.Missing h k = absurd (absent_not k h)
-  compile_one status.Limit status.Limit h k = refl
-  compile_one status.Limit status.Done h k = absurd (stop_not_made k.0 k.1 h)
-  compile_one status.Limit _ h k = absurd k
-  compile_one status.Done status.Missing h k = absurd (stands_absent files unit h.1.text h.1.stands k)
-  compile_one status.Done status.Limit h k = absurd (stop_not_made h.0 h.1 k)
-  compile_one status.Done status.Done h k = refl
-  compile_one status.Done _ h k = absurd k
-  compile_one _ t h k = absurd h
+  compile_one s t h k = one_text Formed one_form s t (compile_kind s h) (compile_kind t k)
+
+  -- and in show it is shown
+  abbrev IsShown : List ℕ → Status → Type 0
+  IsShown text s = s ≡ status.Done
+
+  show_kind : (s : Status) → show_reason unit files s → TextKind unit files IsShown s
+  show_kind status.Missing h = is_absent h refl
+  show_kind status.Syntax h = syntax_kind unit files IsShown h
+  show_kind status.Limit h = limit_kind unit files IsShown h
+  show_kind status.Done h = is_read h.1.text h.1.stands (h.0, h.1.parsed) refl
+  show_kind _ h = absurd h
+
+  pub show_one : (s t : Status) → show_reason unit files s → show_reason unit files t → s ≡ t
+  show_one s t h k = one_text IsShown (λ text a b e f. e ∙ sym f) s t (show_kind s h) (show_kind t k)
 
 -- link: what is so of the files of all names decides the status
 abbrev fault_status : Option LinkFault → Status
@@ -238,16 +313,18 @@ source_status (Some (source.Unresolved unit name)) size = Some status.Unresolved
 source_status None None = None
 source_status None (Some fault) = Some status.Range
 
+-- a unit is not compiled, and this is why
 abbrev UnitStop : Contents → Status → List ℕ → Type 0
-UnitStop files s unit = ((s ≡ status.Missing) × IsAbsent files unit) ⊎ ((s ≡ status.Limit) × (IsLong files unit ⊎ HasNoUnit files unit))
+UnitStop files s unit = compile_reason unit files s × (s ≡ status.Done → ⊥)
 
 data UnitKind (units : List (List ℕ)) (files : Contents) (s : Option Status) : Type 0 where
   stops_at : (t : Status) → s ≡ Some t → FirstStop (IsCompiled files) units (UnitStop files t) → UnitKind units files s
   all_are : (all : List Compiled) → AreAll (IsCompiled files) units all → s ≡ source_status (source_fault (items_of all)) (too_long (linked_objects (items_of all))) → UnitKind units files s
 
 unit_kind : (units : List (List ℕ)) (files : Contents) (s : Status) → refusal units files s → UnitKind units files (Some s)
-unit_kind units files status.Missing h = stops_at status.Missing refl (stop_for _ _ _ units (λ unit a. inl (refl, a)) h)
-unit_kind units files status.Limit h = stops_at status.Limit refl (stop_for _ _ _ units (λ unit a. inr (refl, a)) h)
+unit_kind units files status.Missing h = stops_at status.Missing refl (stop_for _ _ _ units (λ unit a. (a, λ e. cc)) h)
+unit_kind units files status.Syntax h = stops_at status.Syntax refl (stop_for _ _ _ units (λ unit a. (a, λ e. cc)) h)
+unit_kind units files status.Limit h = stops_at status.Limit refl (stop_for _ _ _ units (λ unit a. (a, λ e. cc)) h)
 unit_kind units files status.Doubled h = all_are h.0 h.1 (sym (ap (λ (f : Option SourceFault). source_status f (too_long (linked_objects (items_of h.0)))) h.2.2))
 unit_kind units files status.Unresolved h = all_are h.0 h.1 (sym (ap (λ (f : Option SourceFault). source_status f (too_long (linked_objects (items_of h.0)))) h.2.2))
 unit_kind units files status.Range h = all_are h.0 h.1 (sym ((λ i. source_status (h.2.0 i) (h.2.1.1 i))))
@@ -258,14 +335,10 @@ program_kind units files h = all_are h.0 h.1 (sym ((λ i. source_status (h.2.0 i
 
 module _ (laws : Laws) (units : List (List ℕ)) (files : Contents) where
   goes_on : (s : Status) (unit : List ℕ) (made : Compiled) → IsCompiled files unit made → UnitStop files s unit → ⊥
-  goes_on s unit made h (inl k) = stands_absent files unit h.text h.stands k.1
-  goes_on s unit made h (inr k) = stop_not_made unit files made h k.1
+  goes_on s unit made h k = k.1 (compile_one laws unit files s status.Done k.0 (made, h))
 
   one_unit_stop : (s t : Status) (unit : List ℕ) → UnitStop files s unit → UnitStop files t unit → s ≡ t
-  one_unit_stop s t unit (inl h) (inl k) = h.0 ∙ sym k.0
-  one_unit_stop s t unit (inl h) (inr k) = absurd (absent_not unit files h.1 k.1)
-  one_unit_stop s t unit (inr h) (inl k) = absurd (absent_not unit files k.1 h.1)
-  one_unit_stop s t unit (inr h) (inr k) = h.0 ∙ sym k.0
+  one_unit_stop s t unit h k = compile_one laws unit files s t h.0 k.0
 
   same_items : (names : List (List ℕ)) (a b : List Compiled) → AreAll (IsCompiled files) names a → AreAll (IsCompiled files) names b → items_of a ≡ items_of b
   same_items [] [] [] h k = refl

@@ -1,7 +1,7 @@
 -- What the top call promises, of what the words are answered and how that ends.
 use Rattle.std.proofs.Common.{◌≡◌, ◌∷◌, ◌++◌, [], ℕ, List, Some, map, refl, inl, inr, sym, subst}
 use Rattle.cc_base.specs.Seen.{SinkSeen}
-use Rattle.command_words.specs.Commands.{Request, Compile, Link, Run, Exec, Fits, FitsNone, AreNames, object_name}
+use Rattle.command_words.specs.Commands.{Request, Compile, Link, Run, Show, Exec, Fits, FitsNone, AreNames, object_name}
 use Rattle.commands.specs.declared.answer.Answer.{Answer}
 use Rattle.commands.specs.declared.answer.Answer.TheVariants as answer
 use Rattle.commands.specs.declared.answer.Status.{Status}
@@ -14,7 +14,7 @@ use Rattle.ccelf_build.specs.Ends.{Ends}
 use Rattle.ccelf_build.specs.Kept.{Kept, names_put}
 use Rattle.ccelf_build.specs.Laws.{Laws}
 use Rattle.ccelf_build.specs.Tells.{Tells}
-use Rattle.ccelf_build.specs.Told.{compile_told, link_told, run_told, exec_told}
+use Rattle.ccelf_build.specs.Told.{compile_told, link_told, run_told, show_told, exec_told}
 use Rattle.ccelf_build.specs.Promise.{World, world, Asked, Answers, Promise}
 use Rattle.ccelf_build.proofs.Compiling.{compile_row}
 use Rattle.ccelf_build.proofs.Executing.{exec_row}
@@ -22,9 +22,10 @@ use Rattle.ccelf_build.proofs.Causing.{answered, caused}
 use Rattle.ccelf_build.proofs.Forcing.{forced}
 use Rattle.ccelf_build.proofs.Keeping.{kept, none_kept}
 use Rattle.ccelf_build.proofs.Linking.{link_row}
-use Rattle.ccelf_build.proofs.OneReason.{compile_one, link_one, run_one}
-use Rattle.ccelf_build.proofs.Reasons.{comes_by, compile_why, link_why, run_why, exec_comes}
+use Rattle.ccelf_build.proofs.OneReason.{compile_one, show_one, link_one, run_one}
+use Rattle.ccelf_build.proofs.Reasons.{comes_by, compile_why, show_why, link_why, run_why, exec_comes}
 use Rattle.ccelf_build.proofs.Running.{run_row}
+use Rattle.ccelf_build.proofs.Showing.{show_row}
 use Rattle.ccelf_build.proofs.Statuses.{statuses}
 use Rattle.ccelf_build.proofs.Units.{nothing_done}
 use Rattle.ccelf_build.proofs.Untouching.{left_alone}
@@ -46,6 +47,10 @@ module _ (laws : Laws) (files : Contents) (old : Outside) (there : old.files.tol
   asked_link : (image : List ℕ) (objects : List (List ℕ)) (new : Outside) (told : Answer) → Asked (does (Link image objects)) old told new → link_told image objects files old told new
   asked_link image objects new told (inl h) = let P : Answer → Type 0 = λ a. link_told image objects files old a new in subst P (sym h.0) (nothing_done files old new there h.1)
   asked_link image objects new told (inr h) = link_row laws image objects files old there new told h
+
+  asked_show : (unit : List ℕ) (new : Outside) (told : Answer) → Asked (does (Show unit)) old told new → show_told unit files old told new
+  asked_show unit new told (inl h) = let P : Answer → Type 0 = λ a. show_told unit files old a new in subst P (sym h.0) (inl (nothing_done files old new there h.1))
+  asked_show unit new told (inr h) = show_row unit files old there new told h
 
   module _ (input : List ℕ) (known : old.input.told ≡ Some input) where
     asked_run : (steps : ℕ) (image : List ℕ) (new : Outside) (told : Answer) → Asked (does (Run steps image)) old told new → run_told steps image files input old told new
@@ -81,6 +86,7 @@ promised laws words old new result told out fits none refused tells ends =
       compile = λ unit object files f there. record { answer = told; output = out; done = asked_compile laws files before there unit object behind told (fits (Compile unit object) f); ends = ends };
       link = λ image objects files f there. record { answer = told; output = out; done = asked_link laws files before there image objects behind told (fits (Link image objects) f); ends = ends };
       run = λ steps image files input f there known. record { answer = told; output = out; done = asked_run laws files before there input known steps image behind told (fits (Run steps image) f); ends = ends };
+      show = λ unit files f there. record { answer = told; output = out; done = asked_show laws files before there unit behind told (fits (Show unit) f); ends = ends };
       exec = λ steps image units files input f there known. record {
         answer = told;
         output = out;
@@ -88,12 +94,14 @@ promised laws words old new result told out fits none refused tells ends =
         ends = ends;
       };
       compile_comes = λ unit object files f there.
-          comes_by _ (compile_one unit files) told out old.report new.output new.report result (compile_why unit object files before behind told (asked_compile laws files before there unit object behind told (fits (Compile unit object) f))) ends;
+          comes_by _ (compile_one laws unit files) told out old.report new.output new.report result (compile_why unit object files before behind told (asked_compile laws files before there unit object behind told (fits (Compile unit object) f))) ends;
       link_comes = λ image objects files f there.
           comes_by _ (link_one laws objects files) told out old.report new.output new.report result (link_why image objects files before behind told (asked_link laws files before there image objects behind told (fits (Link image objects) f))) ends;
       run_comes = λ steps image files input f there known.
           comes_by _ (run_one laws steps image files input) told out old.report new.output new.report result
           (run_why steps image files input before behind told (asked_run laws files before there input known steps image behind told (fits (Run steps image) f))) ends;
+      show_comes = λ unit files f there.
+          comes_by _ (show_one laws unit files) told out old.report new.output new.report result (show_why unit files before behind told (asked_show laws files before there unit behind told (fits (Show unit) f))) ends;
       exec_comes = λ steps image units files input f there known.
           exec_comes laws steps units files input image before behind told out old.report new.output new.report result (asked_exec laws files before there input known steps image units f.names behind told (fits (Exec steps image units) f)) ends;
     }

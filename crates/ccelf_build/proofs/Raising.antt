@@ -2,11 +2,12 @@
 use Rattle.std.proofs.Common.{◌≡◌, ℕ, List, [], ◌∷◌, map, Result, Ok, Err, inl, inr, subst, ap, ◌∙◌, sym}
 use Rattle.cc_base.specs.Seen.{FilesSeen, SourceSeen, SinkSeen}
 use Rattle.elf_file.specs.declared.image.ImageParts.{ImageParts}
-use Rattle.command_words.specs.Commands.{Request, Compile, Link, Run, Exec, object_name}
+use Rattle.command_words.specs.Commands.{Request, Compile, Link, Run, Show, Exec, object_name}
 use Rattle.commands.specs.declared.answer.Answer.{Answer}
 use Rattle.commands.specs.declared.answer.Answer.TheVariants as answer
 use Rattle.commands.specs.Doing.{Outside, Step, Command, Then, AndThen, Each}
-use Rattle.commands.specs.Steps.{Fetches, Stores, Compiles, Keeps, CompilesTo, Links, Ran, Runs, RunsBy}
+use Rattle.clight_print.specs.Canonical.{canonical_text}
+use Rattle.commands.specs.Steps.{Fetches, Stores, Parses, GivesOut, Compiles, Keeps, CompilesTo, Links, Ran, Runs, RunsBy}
 use Rattle.commands.specs.Does.{does}
 use Rattle.ccelf_build.specs.Tells.{counts, Raises, Tells}
 use Rattle.ccelf_build.proofs.Chains.{keep_it, store_it, compile_it, rest_failed}
@@ -47,10 +48,35 @@ store_honest name bytes old new answer.WriteFault h = (inl (h.0.rose, files_alon
 store_honest name bytes old new answer.Memory h = (inl (files_alone old new _ h.1 h.0), λ e. cc)
 store_honest name bytes old new _ h = absurd h.0
 
+parse_quiet : (name text : List ℕ) → Quiet (Parses name text)
+parse_quiet name text old new a h = ap counts h.1
+
+parse_honest : (name text : List ℕ) → Honest (Parses name text)
+parse_honest name text old new (answer.LimitText which) h = (ap counts h.1, λ e. cc)
+parse_honest name text old new (answer.LimitDeep which at) h = (ap counts h.1, λ e. cc)
+parse_honest name text old new (answer.Syntax which kind at) h = (ap counts h.1, λ e. cc)
+parse_honest name text old new answer.Memory h = (inl (ap counts h.1), λ e. cc)
+parse_honest name text old new _ h = absurd h.0
+
+-- the output alone
+output_alone : (old new : Outside) (o : SinkSeen) → new ≡ record old { output = new.output } → new.output ≡ o → counts new ≡ counts (record old { output = o })
+output_alone old new o e h = ap counts e ∙ ap (λ p. counts (record old { output = p })) h
+
+give_quiet : (text : List ℕ) → Quiet (GivesOut text)
+give_quiet text old new a h = output_alone old new _ h.1 h.0
+
+give_honest : (text : List ℕ) → Honest (GivesOut text)
+give_honest text old new answer.WriteFault h = (inr (h.0.fault.rose, output_alone old new _ h.1 h.0.fault.others), λ e. cc)
+give_honest text old new answer.Memory h = (inr (h.0.fault.rose, output_alone old new _ h.1 h.0.fault.others), λ e. cc)
+give_honest text old new _ h = absurd h.0
+
 compile_quiet : (name text : List ℕ) → Quiet (Compiles name text)
 compile_quiet name text old new a h = ap counts h.1
 
 compile_honest : (name text : List ℕ) → Honest (Compiles name text)
+compile_honest name text old new (answer.LimitText which) h = (ap counts h.1, λ e. cc)
+compile_honest name text old new (answer.LimitDeep which at) h = (ap counts h.1, λ e. cc)
+compile_honest name text old new (answer.Syntax which kind at) h = (ap counts h.1, λ e. cc)
 compile_honest name text old new (answer.LimitForm which) h = (ap counts h.1, λ e. cc)
 compile_honest name text old new answer.Memory h = (inl (ap counts h.1), λ e. cc)
 compile_honest name text old new _ h = absurd h.0
@@ -165,6 +191,14 @@ does_honest (Link image objects) =
     stored_honest : (old new : Outside) (e : Answer) (size : ℕ) → e ≡ answer.ImageStored size → new ≡ old → IsHonest old e new
     stored_honest old new e size is same = let P : Answer → Type 0 = λ a. IsHonest old a new in subst P (sym is) (ap counts same, λ x. cc)
 does_honest (Run steps image) = then_honest (Fetches image) _ (fetch_quiet image) (fetch_honest image) (λ bytes. runs_honest steps image bytes)
+does_honest (Show unit) =
+    then_honest (Fetches unit) _ (fetch_quiet unit) (fetch_honest unit) (λ text.
+    then_honest (Parses unit text) _ (parse_quiet unit text) (parse_honest unit text) (λ tree.
+    then_honest (Keeps (canonical_text tree)) _ (keep_quiet (canonical_text tree)) (keep_honest (canonical_text tree)) (λ shown.
+    then_honest (GivesOut shown) _ (give_quiet shown) (give_honest shown) (λ _ old new e h. shown_honest old new e h.0 h.1))))
+  where
+    shown_honest : (old new : Outside) (e : Answer) → e ≡ answer.Shown → new ≡ old → IsHonest old e new
+    shown_honest old new e is same = let P : Answer → Type 0 = λ a. IsHonest old a new in subst P (sym is) (ap counts same, λ x. cc)
 does_honest (Exec steps image units) =
     then_honest (Each (λ unit. CompilesTo unit (object_name unit)) units) _ (each_quiet (λ unit. CompilesTo unit (object_name unit)) (λ unit. unit_quiet unit (object_name unit)) units) (each_honest (λ unit. CompilesTo unit (object_name unit)) (λ unit. unit_quiet unit (object_name unit)) (λ unit. unit_honest unit (object_name unit)) units) (λ files.
     then_honest (Links (map object_name units) files) _ (link_quiet (map object_name units) files) (link_honest (map object_name units) files) (λ bytes.

@@ -20,9 +20,9 @@ use Rattle.commands.specs.Answers.{status_of}
 use Rattle.commands.specs.Doing.{Outside}
 use Rattle.ccelf_build.specs.Contents.{Contents, IsAbsent, IsLong}
 use Rattle.ccelf_build.specs.Ends.{Ends}
-use Rattle.ccelf_build.specs.Told.{HasNoUnit, IsStuck, IsBuilt, items_of, compile_told, link_told, run_told, exec_told}
+use Rattle.ccelf_build.specs.Told.{HasNoUnit, IsStuck, IsBuilt, items_of, compile_told, link_told, run_told, show_told, exec_told}
 use Rattle.ccelf_build.specs.Laws.{Laws}
-use Rattle.ccelf_build.specs.Causes.{Yields, ComesFor, compile_reason, link_reason, run_reason, refusal, run_of_units, IsProgram, ExecComesFor}
+use Rattle.ccelf_build.specs.Causes.{Yields, ComesFor, compile_reason, link_reason, run_reason, show_reason, refusal, run_of_units, IsProgram, ExecComesFor}
 use Rattle.ccelf_build.proofs.Ending.{ended_so}
 use Rattle.clight_syntax.specs.SecondFaults.{source_fault}
 use Rattle.ccelf_build.proofs.Listing.{stop_for}
@@ -57,13 +57,28 @@ stuck_wrong image input steps eip cause h = ap outcome_of h.1
 
 pub compile_why : (unit object : List ℕ) (files : Contents) (old new : Outside) (told : Answer) → compile_told unit object files old told new → compile_reason unit files (status_of told) ⊎ Yields (status_of told)
 compile_why unit object files old new (answer.Missing which) h = inl h.1
-compile_why unit object files old new (answer.LimitFile which) h = inl (inl h.1)
+compile_why unit object files old new (answer.LimitFile which) h = inl (inl (inl h.1))
+compile_why unit object files old new (answer.LimitText which) h = inl (inl (inr (inl h.1)))
+compile_why unit object files old new (answer.LimitDeep which at) h = inl (inl (inr (inr (at, h.1))))
+compile_why unit object files old new (answer.Syntax which kind at) h = inl (kind, (at, h.1))
 compile_why unit object files old new (answer.LimitForm which) h = inl (inr h.1)
 compile_why unit object files old new (answer.ObjectStored size) h = inl (h.0, h.1)
 compile_why unit object files old new answer.ReadFault h = inr read_fault
 compile_why unit object files old new answer.WriteFault h = inr write_fault
 compile_why unit object files old new answer.Memory h = inr memory
 compile_why unit object files old new _ h = absurd h
+
+pub show_why : (unit : List ℕ) (files : Contents) (old new : Outside) (told : Answer) → show_told unit files old told new → show_reason unit files (status_of told) ⊎ Yields (status_of told)
+show_why unit files old new (answer.Missing which) h = inl h.1
+show_why unit files old new (answer.LimitFile which) h = inl (inl h.1)
+show_why unit files old new (answer.LimitText which) h = inl (inr (inl h.1))
+show_why unit files old new (answer.LimitDeep which at) h = inl (inr (inr (at, h.1)))
+show_why unit files old new (answer.Syntax which kind at) h = inl (kind, (at, h.1))
+show_why unit files old new answer.Shown h = inl (h.tree, h.is)
+show_why unit files old new answer.ReadFault h = inr read_fault
+show_why unit files old new answer.WriteFault h = inr write_fault
+show_why unit files old new answer.Memory h = inr memory
+show_why unit files old new _ h = absurd h
 
 pub link_why : (image : List ℕ) (names : List (List ℕ)) (files : Contents) (old new : Outside) (told : Answer) → link_told image names files old told new → link_reason names files (status_of told) ⊎ Yields (status_of told)
 link_why image names files old new (answer.Missing which) h = inl (stop_for _ _ _ names (λ name s. s.1) h.0)
@@ -96,7 +111,10 @@ run_why steps name files input old new _ h = absurd h
 pub exec_why : (steps : ℕ) (image : List ℕ) (units : List (List ℕ)) (files : Contents) (input : List ℕ) (old new : Outside) (told : Answer) → exec_told steps image units files input old told new
     → (refusal units files (status_of told) ⊎ run_of_units steps units files input (status_of told)) ⊎ Yields (status_of told)
 exec_why steps image units files input old new (answer.Missing which) h = inl (inl (stop_for _ _ _ units (λ name s. s.1) h.0))
-exec_why steps image units files input old new (answer.LimitFile which) h = inl (inl (stop_for _ _ _ units (λ name s. inl s.1) h.0))
+exec_why steps image units files input old new (answer.LimitFile which) h = inl (inl (stop_for _ _ _ units (λ name s. inl (inl s.1)) h.0))
+exec_why steps image units files input old new (answer.LimitText which) h = inl (inl (stop_for _ _ _ units (λ name s. inl (inr (inl s.1))) h.0))
+exec_why steps image units files input old new (answer.LimitDeep which at) h = inl (inl (stop_for _ _ _ units (λ name s. inl (inr (inr (at, s.1)))) h.0))
+exec_why steps image units files input old new (answer.Syntax which kind at) h = inl (inl (stop_for _ _ _ units (λ name s. (kind, (at, s.1))) h.0))
 exec_why steps image units files input old new (answer.LimitForm which) h = inl (inl (stop_for _ _ _ units (λ name s. inr s.1) h.0))
 exec_why steps image units files input old new (answer.Doubled name file) h = inl (inl (h.all, h.are, (h.is.0, name, h.is.1)))
 exec_why steps image units files input old new (answer.Unresolved name file) h = inl (inl (h.all, h.are, (h.is.0, name, h.is.1)))

@@ -1,15 +1,17 @@
 -- Which statuses a command may have.
 use Rattle.std.proofs.Common.{◌≡◌, ◌⊎◌, ◌∷◌, [], ℕ, List, map, length, Result, Ok, Err, refl, inl, inr, ap, ◌∙◌, sym, subst}
+use Rattle.clight_text.specs.declared.tree.External.{External}
+use Rattle.clight_print.specs.Canonical.{canonical_text}
 use Rattle.clight_syntax.specs.declared.second_items.Item.{Item}
 use Rattle.elf_file.specs.declared.image.ImageParts.{ImageParts}
-use Rattle.command_words.specs.Commands.{Request, Compile, Link, Run, Exec, object_name}
+use Rattle.command_words.specs.Commands.{Request, Compile, Link, Run, Show, Exec, object_name}
 use Rattle.commands.specs.declared.answer.Answer.{Answer}
 use Rattle.commands.specs.declared.answer.Answer.TheVariants as answer
 use Rattle.commands.specs.declared.answer.Status.{Status}
 use Rattle.commands.specs.declared.answer.Status.TheVariants as status
 use Rattle.commands.specs.Answers.{status_of}
-use Rattle.commands.specs.Doing.{Outside, Step, Command, Then, AndThen, Each}
-use Rattle.commands.specs.Steps.{Fetches, Stores, Compiles, Keeps, CompilesTo, Links, LinkedFrom, Runs, RunsBy}
+use Rattle.commands.specs.Doing.{Outside, Step, Command, Says, Then, AndThen, Each}
+use Rattle.commands.specs.Steps.{Fetches, Stores, Parses, GivesOut, Compiles, Keeps, CompilesTo, Links, LinkedFrom, Runs, RunsBy}
 use Rattle.commands.specs.Does.{does}
 use Rattle.cc_base.specs.Seen.{SinkSeen}
 use Rattle.ccelf_build.specs.Ends.{Ends}
@@ -41,6 +43,16 @@ memory = inr (inr (inr (inr (inr refl))))
 abbrev CommonStep : {A : Type 0} → Step A → Type 0
 CommonStep step = (old new : Outside) (e : Answer) → step old (Err e) new → IsCommon (status_of e)
 
+-- a step that parses a text may have a fault of syntax too
+abbrev OfText : Status → Type 0
+OfText s = IsCommon s ⊎ (s ≡ status.Syntax)
+
+abbrev TextStep : {A : Type 0} → Step A → Type 0
+TextStep step = (old new : Outside) (e : Answer) → step old (Err e) new → OfText (status_of e)
+
+as_text : {A : Type 0} (step : Step A) → CommonStep step → TextStep step
+as_text step common old new e h = inl (common old new e h)
+
 fetch_common : (name : List ℕ) → CommonStep (Fetches name)
 fetch_common name old new (answer.Missing which) h = missing
 fetch_common name old new (answer.LimitFile which) h = limit
@@ -53,10 +65,25 @@ store_common name bytes old new answer.WriteFault h = write
 store_common name bytes old new answer.Memory h = memory
 store_common name bytes old new _ h = absurd h.0
 
-compile_common : (name text : List ℕ) → CommonStep (Compiles name text)
-compile_common name text old new (answer.LimitForm which) h = limit
-compile_common name text old new answer.Memory h = memory
-compile_common name text old new _ h = absurd h.0
+parse_text : (name text : List ℕ) → TextStep (Parses name text)
+parse_text name text old new (answer.LimitText which) h = inl limit
+parse_text name text old new (answer.LimitDeep which at) h = inl limit
+parse_text name text old new (answer.Syntax which kind at) h = inr refl
+parse_text name text old new answer.Memory h = inl memory
+parse_text name text old new _ h = absurd h.0
+
+compile_text : (name text : List ℕ) → TextStep (Compiles name text)
+compile_text name text old new (answer.LimitText which) h = inl limit
+compile_text name text old new (answer.LimitDeep which at) h = inl limit
+compile_text name text old new (answer.Syntax which kind at) h = inr refl
+compile_text name text old new (answer.LimitForm which) h = inl limit
+compile_text name text old new answer.Memory h = inl memory
+compile_text name text old new _ h = absurd h.0
+
+give_common : (text : List ℕ) → CommonStep (GivesOut text)
+give_common text old new answer.WriteFault h = write
+give_common text old new answer.Memory h = memory
+give_common text old new _ h = absurd h.0
 
 keep_common : (bytes : List ℕ) → CommonStep (Keeps bytes)
 keep_common bytes old new e (inl h, same) = let clash : ◌≡◌ {A = Result (List ℕ) Answer} (Err e) (Ok bytes) = h in cc
@@ -65,26 +92,32 @@ keep_common bytes old new e (inr h, same) =
     let is : e ≡ answer.Memory = (let l : ◌≡◌ {A = Result (List ℕ) Answer} (Err e) (Err answer.Memory) = h in cc) in
     subst P (sym is) memory
 
-and_then_common : {A B : Type 0} (step : Step A) (rest : A → Step B) → CommonStep step → ((a : A) → CommonStep (rest a)) → CommonStep (AndThen step rest)
-and_then_common step rest first next old new e (inl h) = first old new e h
-and_then_common step rest first next old new e (inr h) = next h.value h.between new e h.goes_on
+and_then_text : {A B : Type 0} (step : Step A) (rest : A → Step B) → TextStep step → ((a : A) → TextStep (rest a)) → TextStep (AndThen step rest)
+and_then_text step rest first next old new e (inl h) = first old new e h
+and_then_text step rest first next old new e (inr h) = next h.value h.between new e h.goes_on
 
 each_common : {X Y : Type 0} (step : X → Step Y) → ((x : X) → CommonStep (step x)) → (xs : List X) → CommonStep (Each step xs)
 each_common {X} {Y} step each [] old new e h = let clash : ◌≡◌ {A = Result (List Y) Answer} (Err e) (Ok []) = h.0 in cc
 each_common step each (x ∷ xs) old new e (inl h) = each x old new e h
 each_common step each (x ∷ xs) old new e (inr h) = each_common step each xs h.between new e (rest_failed step xs h.value h.between new e h.goes_on)
 
-unit_common : (unit name : List ℕ) → CommonStep (CompilesTo unit name)
-unit_common unit name =
-    and_then_common (Fetches unit) (compile_it unit name) (fetch_common unit) (λ text.
-    and_then_common (Compiles unit text) (store_it name) (compile_common unit text) (λ object.
-    and_then_common (Stores name object) (keep_it object) (store_common name object) (λ _. keep_common object)))
+each_text : {X Y : Type 0} (step : X → Step Y) → ((x : X) → TextStep (step x)) → (xs : List X) → TextStep (Each step xs)
+each_text {X} {Y} step each [] old new e h = let clash : ◌≡◌ {A = Result (List Y) Answer} (Err e) (Ok []) = h.0 in cc
+each_text step each (x ∷ xs) old new e (inl h) = each x old new e h
+each_text step each (x ∷ xs) old new e (inr h) = each_text step each xs h.between new e (rest_failed step xs h.value h.between new e h.goes_on)
+
+unit_text : (unit name : List ℕ) → TextStep (CompilesTo unit name)
+unit_text unit name =
+    and_then_text (Fetches unit) (compile_it unit name) (as_text (Fetches unit) (fetch_common unit)) (λ text.
+    and_then_text (Compiles unit text) (store_it name) (compile_text unit text) (λ object.
+    and_then_text (Stores name object) (keep_it object) (as_text (Stores name object) (store_common name object)) (λ _. as_text (Keeps object) (keep_common object))))
 
 -- a command's own statuses, and the common ones
 common : (r : Request) (s : Status) → IsCommon s → IsStatusOf r s
-common (Compile unit object) s h = h
+common (Compile unit object) s h = inl h
 common (Link image objects) s h = inl h
 common (Run steps image) s h = inl h
+common (Show unit) s h = inl h
 common (Exec steps image units) s h = inl h
 
 is_done : (r : Request) (e told : Answer) → e ≡ told → status_of told ≡ status.Done → IsStatusOf r (status_of e)
@@ -124,26 +157,30 @@ made_from (unit ∷ units) old new objects h =
     let a = h.went.goes_on in let b = a.goes_on in
     let P : List (List ℕ) → Type 0 = λ os. (items : List (List Item)) × AreMade items os in
     let all : objects ≡ a.value ∷ rest.value = (let e : ◌≡◌ {A = Result (List (List ℕ)) Answer} (Ok objects) (Ok (h.value ∷ rest.value)) = rest.goes_on.0 in let f = kept_value h.value a.value b.goes_on.0 in cc) in
-    subst P (sym all) (a.went.0.items ∷ more.0, (record { text = h.went.value; form = a.went.0.form; written = a.went.0.written }, more.1))
+    subst P (sym all) (a.went.0.1.items ∷ more.0, (record { text = h.went.value; form = a.went.0.1.form; written = a.went.0.1.written }, more.1))
 
 exec_link : (steps : ℕ) (image : List ℕ) (units names : List (List ℕ)) (items : List (List Item)) (e : Answer) → UnitsLinked names items (Err e) → IsStatusOf (Exec steps image units) (status_of e)
-exec_link steps image units names items (answer.Doubled name file) h = inr (inl refl)
-exec_link steps image units names items (answer.Unresolved name file) h = inr (inr (inl refl))
-exec_link steps image units names items (answer.Range end) h = inr (inr (inr (inl refl)))
+exec_link steps image units names items (answer.Doubled name file) h = inr (inr (inl refl))
+exec_link steps image units names items (answer.Unresolved name file) h = inr (inr (inr (inl refl)))
+exec_link steps image units names items (answer.Range end) h = inr (inr (inr (inr (inl refl))))
 exec_link steps image units names items answer.Memory h = inl memory
 exec_link steps image units names items _ h = absurd h
 
 exec_run : (steps : ℕ) (image : List ℕ) (units : List (List ℕ)) (parts : ImageParts) (old new : Outside) (e : Answer) → RunsBy parts steps old e new → IsStatusOf (Exec steps image units) (status_of e)
 exec_run steps image units parts old new (answer.Ended code) h = inl (inl refl)
-exec_run steps image units parts old new answer.Spent h = inr (inr (inr (inr (inl refl))))
-exec_run steps image units parts old new (answer.Stuck eip cause) h = inr (inr (inr (inr (inr refl))))
+exec_run steps image units parts old new answer.Spent h = inr (inr (inr (inr (inr (inl refl)))))
+exec_run steps image units parts old new (answer.Stuck eip cause) h = inr (inr (inr (inr (inr (inr refl)))))
 exec_run steps image units parts old new answer.ReadFault h = inl read
 exec_run steps image units parts old new answer.WriteFault h = inl write
 exec_run steps image units parts old new answer.Memory h = inl memory
 exec_run steps image units parts old new _ h = absurd h
 
 exec_statuses : Laws → (steps : ℕ) (image : List ℕ) (units : List (List ℕ)) (old new : Outside) (e : Answer) → does (Exec steps image units) old e new → IsStatusOf (Exec steps image units) (status_of e)
-exec_statuses laws steps image units old new e (inl h) = inl (each_common compiles (λ unit. unit_common unit (object_name unit)) units old new e h)
+exec_statuses laws steps image units old new e (inl h) = of_units (each_text compiles (λ unit. unit_text unit (object_name unit)) units old new e h)
+  where
+    of_units : OfText (status_of e) → IsStatusOf (Exec steps image units) (status_of e)
+    of_units (inl s) = inl s
+    of_units (inr s) = inr (inl s)
 exec_statuses laws steps image units old new e (inr h) = after_units h.goes_on
   where
     made : (items : List (List Item)) × AreMade items h.value
@@ -168,7 +205,7 @@ exec_statuses laws steps image units old new e (inr h) = after_units h.goes_on
     after_units (inr k) = after_link k.value k.between (units_linked laws (map object_name units) h.value made.0 made.1 (Ok k.value) k.went.0) k.goes_on
 
 answer_statuses : Laws → (r : Request) (old new : Outside) (e : Answer) → does r old e new → IsStatusOf r (status_of e)
-answer_statuses laws (Compile unit object) old new e (inl h) = unit_common unit object old new e h
+answer_statuses laws (Compile unit object) old new e (inl h) = unit_text unit object old new e h
 answer_statuses laws (Compile unit object) old new e (inr h) = is_done (Compile unit object) e _ h.goes_on.0 refl
 answer_statuses laws (Link image objects) old new e (inl h) = inl (each_common Fetches fetch_common objects old new e h)
 answer_statuses laws (Link image objects) old new e (inr h) = after_files h.goes_on
@@ -184,6 +221,20 @@ answer_statuses laws (Run steps image) old new e (inl h) = inl (fetch_common ima
 answer_statuses laws (Run steps image) old new e (inr h) =
     runs_by steps image h.value h.between (λ told end. IsStatusOf (Run steps image) (status_of told)) (λ none. inr (inl refl)) (λ parts index is fault. inr (inl refl)) (λ parts is fault. inr (inl refl)) (inl memory)
     (λ parts is loads told end r. run_statuses steps image parts steps h.between end told r) e new h.goes_on
+answer_statuses laws (Show unit) old new e (inl h) = inl (fetch_common unit old new e h)
+answer_statuses laws (Show unit) old new e (inr h) = after_fetch h.goes_on
+  where
+    after_print : (tree : List External) (shown : List ℕ) (from : Outside) → Then (GivesOut shown) (λ _. Says answer.Shown) from e new → IsStatusOf (Show unit) (status_of e)
+    after_print tree shown from (inl k) = inl (give_common shown from new e k)
+    after_print tree shown from (inr k) = is_done (Show unit) e _ k.goes_on.0 refl
+
+    after_parse : (tree : List External) (from : Outside) → Then (Keeps (canonical_text tree)) (λ shown. Then (GivesOut shown) (λ _. Says answer.Shown)) from e new → IsStatusOf (Show unit) (status_of e)
+    after_parse tree from (inl k) = inl (keep_common (canonical_text tree) from new e k)
+    after_parse tree from (inr k) = after_print tree k.value k.between k.goes_on
+
+    after_fetch : Then (Parses unit h.value) (λ tree. Then (Keeps (canonical_text tree)) (λ shown. Then (GivesOut shown) (λ _. Says answer.Shown))) h.between e new → IsStatusOf (Show unit) (status_of e)
+    after_fetch (inl k) = parse_text unit h.value h.between new e k
+    after_fetch (inr k) = after_parse k.value k.between k.goes_on
 answer_statuses laws (Exec steps image units) old new e h = exec_statuses laws steps image units old new e h
 
 yields_common : (s : Status) → Yields s → IsCommon s

@@ -2,12 +2,14 @@
 use Rattle.std.proofs.Common.{◌≡◌, ◌⊎◌, ◌∷◌, [], ℕ, List, Result, Ok, Err, refl, inl, inr, ap, ◌∙◌, subst}
 use Rattle.cc_base.specs.Seen.{FilesSeen, SourceSeen, SinkSeen}
 use Rattle.elf_file.specs.declared.image.ImageParts.{ImageParts}
-use Rattle.command_words.specs.Commands.{Request, Compile, Link, Run, Exec}
+use Rattle.command_words.specs.Commands.{Request, Compile, Link, Run, Show, Exec}
 use Rattle.commands.specs.declared.answer.Answer.{Answer}
 use Rattle.commands.specs.declared.answer.Answer.TheVariants as answer
 use Rattle.commands.specs.declared.answer.Status.{Status}
 use Rattle.commands.specs.Doing.{Outside, outside, Step, Command, Then, AndThen, Each, Says}
-use Rattle.commands.specs.Steps.{Fetches, Stores, Compiles, Keeps, CompilesTo, Links, Runs, RunsBy}
+use Rattle.clight_text.specs.declared.tree.External.{External}
+use Rattle.clight_print.specs.Canonical.{canonical_text}
+use Rattle.commands.specs.Steps.{Fetches, Stores, Parses, GivesOut, Compiles, Keeps, CompilesTo, Links, Runs, RunsBy}
 use Rattle.commands.specs.Does.{does}
 use Rattle.ccelf_build.specs.Ends.{Ends}
 use Rattle.ccelf_build.specs.Kept.{OnlyFlushed, PutsNothing, LeavesAlone}
@@ -113,6 +115,36 @@ run_command steps image old new e (inl h) = fetch_still image old new (Err e) h
 run_command steps image old new e (inr h) =
     both_still old.files h.between.files new.files (fetch_still image old h.between (Ok h.value) h.went) (still h.between.files new.files (runs_still steps image h.value h.between new e h.goes_on))
 
+-- show: the files and the input
+abbrev Reads : Outside → Outside → Type 0
+Reads old new = (new.input ≡ old.input) × PutsNothing old.files new.files
+
+both_read : (a b c : Outside) → Reads a b → Reads b c → Reads a c
+both_read a b c p q = (q.0 ∙ p.0, both_still a.files b.files c.files p.1 q.1)
+
+same_read : (old new : Outside) → new ≡ old → Reads old new
+same_read old new e = ((unmoved old new e).0, still old.files new.files (ap (λ (x : Outside). x.files) e))
+
+fetch_read : (name : List ℕ) (old new : Outside) (r : Result (List ℕ) Answer) → Fetches name old r new → Reads old new
+fetch_read name old new r h = ((on_files old new h.1).0, fetch_still name old new r h)
+
+give_read : (text : List ℕ) (old new : Outside) (r : Result (Unit {0}) Answer) → GivesOut text old r new → Reads old new
+give_read text old new r h = (ap (λ (x : Outside). x.input) h.1, still old.files new.files (ap (λ (x : Outside). x.files) h.1))
+
+abbrev ReadsBy : Command → Type 0
+ReadsBy command = (old new : Outside) (e : Answer) → command old e new → Reads old new
+
+then_read : {A : Type 0} (step : Step A) (rest : A → Command) → ((old new : Outside) (r : Result A Answer) → step old r new → Reads old new) → ((a : A) → ReadsBy (rest a)) → ReadsBy (Then step rest)
+then_read step rest reads next old new e (inl h) = reads old new (Err e) h
+then_read step rest reads next old new e (inr h) = both_read old h.between new (reads old h.between (Ok h.value) h.went) (next h.value h.between new e h.goes_on)
+
+show_command : (unit : List ℕ) → ReadsBy (does (Show unit))
+show_command unit =
+    then_read (Fetches unit) _ (fetch_read unit) (λ text.
+    then_read (Parses unit text) _ (λ old new r h. same_read old new h.1) (λ tree.
+    then_read (Keeps (canonical_text tree)) _ (λ old new r h. same_read old new h.1) (λ shown.
+    then_read (GivesOut shown) _ (give_read shown) (λ _ old new e h. same_read old new h.1))))
+
 -- words that were not read touch nothing
 alone_so : (r : Request) (old new : Outside) (report told_output : SinkSeen) (last : SinkSeen) (e : Answer) (result : Status) → does r old e new → Ends e new.output report result told_output last
     → LeavesAlone r old.files new.files old.input new.input old.output told_output
@@ -125,6 +157,7 @@ alone_so (Link image objects) old new report after last e result h ends =
     let P : SinkSeen → Type 0 = λ o. OnlyFlushed o after in
     (s.0, subst P s.1 (flushed_so e new.output report after last result ends))
 alone_so (Run steps image) old new report after last e result h ends = run_command steps image old new e h
+alone_so (Show unit) old new report after last e result h ends = show_command unit old new e h
 alone_so (Exec steps image units) old new report after last e result h ends = tt
 
 same_so : (r : Request) (old new : Outside) (report after last : SinkSeen) (e : Answer) (result : Status) → new ≡ old → Ends e new.output report result after last
@@ -134,6 +167,7 @@ same_so (Compile unit object) old new report after last e result h ends =
 same_so (Link image objects) old new report after last e result h ends =
     let P : SinkSeen → Type 0 = λ o. OnlyFlushed o after in ((unmoved old new h).0, subst P (unmoved old new h).1 (flushed_so e new.output report after last result ends))
 same_so (Run steps image) old new report after last e result h ends = still old.files new.files (ap (λ (x : Outside). x.files) h)
+same_so (Show unit) old new report after last e result h ends = same_read old new h
 same_so (Exec steps image units) old new report after last e result h ends = tt
 
 pub left_alone : (r : Request) (old new : Outside) (report after last : SinkSeen) (e : Answer) (result : Status) → Asked (does r) old e new → Ends e new.output report result after last

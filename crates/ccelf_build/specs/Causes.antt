@@ -2,6 +2,8 @@
 use Rattle.std.specs.Prelude.{◌≡◌, ◌⊎◌, ℕ, List, Some, None}
 use Rattle.cc_base.specs.declared.run.Outcome.{Outcome}
 use Rattle.cc_base.specs.declared.run.Outcome.TheVariants as outcome
+use Rattle.clight_text.specs.declared.tree.External.{External}
+use Rattle.clight_text.specs.declared.fault.SyntaxFault.TheVariants as syntax
 use Rattle.clight_syntax.specs.declared.second_items.Item.{Item}
 use Rattle.clight_syntax.specs.SecondFaults.{source_fault}
 use Rattle.clight_syntax.specs.SecondFaults as source
@@ -16,11 +18,12 @@ use Rattle.elf_linker.specs.declared.fault.LinkFault.TheVariants as linking
 use Rattle.image_loader.specs.Load.{image_after}
 use Rattle.image_loader.specs.declared.fault.LoadFault.{LoadFault}
 use Rattle.second_code.specs.LinkedObjects.{linked_objects}
+use Rattle.commands.specs.declared.answer.SyntaxKind.{SyntaxKind}
 use Rattle.commands.specs.declared.answer.Status.{Status}
 use Rattle.commands.specs.declared.answer.Status.TheVariants as status
-use Rattle.commands.specs.Steps.{IsFirstNoObject}
+use Rattle.commands.specs.Steps.{fault_at, IsFirstNoObject}
 use Rattle.ccelf_build.specs.Contents.{Contents, StandsAt, IsAbsent, IsLong, AreAll, FirstStop}
-use Rattle.ccelf_build.specs.Told.{Compiled, IsCompiled, HasNoUnit, AreObjectsAt, IsLoaded, IsNotLoaded, HasNoImage, IsBuilt, items_of}
+use Rattle.ccelf_build.specs.Told.{Compiled, IsCompiled, HasNoUnit, HasFault, HasTreeAt, AreObjectsAt, IsLoaded, IsNotLoaded, HasNoImage, IsBuilt, items_of}
 
 -- A fault of the outside, which raised its count, or want of memory stands in place of the status.
 abbrev pub Yields : Status → Type 0
@@ -31,12 +34,29 @@ pub record ComesFor (reason : Status → Type 0) (result : Status) : Type 0 wher
   pub for : reason result ⊎ Yields result
   pub comes : (s : Status) → reason s → (result ≡ s) ⊎ Yields result
 
+-- a text that passes a limit of length or depth
+abbrev pub PassesLimit : Contents → List ℕ → Type 0
+PassesLimit files unit = IsLong files unit ⊎ (HasFault files unit syntax.Long ⊎ ((at : ℕ) × HasFault files unit (syntax.Deep at)))
+
+-- a text with a fault of syntax
+abbrev pub HasSyntaxFault : Contents → List ℕ → Type 0
+HasSyntaxFault files unit = (kind : SyntaxKind) × ((at : ℕ) × HasFault files unit (fault_at kind at))
+
 -- the reasons of compile
 abbrev pub compile_reason : List ℕ → Contents → Status → Type 0
 compile_reason unit files status.Missing = IsAbsent files unit
-compile_reason unit files status.Limit = IsLong files unit ⊎ HasNoUnit files unit
+compile_reason unit files status.Syntax = HasSyntaxFault files unit
+compile_reason unit files status.Limit = PassesLimit files unit ⊎ HasNoUnit files unit
 compile_reason unit files status.Done = (made : Compiled) × IsCompiled files unit made
 compile_reason unit files _ = ⊥
+
+-- the reasons of show
+abbrev pub show_reason : List ℕ → Contents → Status → Type 0
+show_reason unit files status.Missing = IsAbsent files unit
+show_reason unit files status.Syntax = HasSyntaxFault files unit
+show_reason unit files status.Limit = PassesLimit files unit
+show_reason unit files status.Done = (tree : List External) × HasTreeAt files unit tree
+show_reason unit files _ = ⊥
 
 -- all files are objects, and this is what is wrong with them
 abbrev pub AreFaulty : Contents → List (List ℕ) → LinkFault → Type 0
@@ -75,7 +95,8 @@ AllCompiled units files so = (all : List Compiled) × AreAll (IsCompiled files) 
 -- the reasons for which exec refuses the units
 abbrev pub refusal : List (List ℕ) → Contents → Status → Type 0
 refusal units files status.Missing = FirstStop (IsCompiled files) units (IsAbsent files)
-refusal units files status.Limit = FirstStop (IsCompiled files) units (λ unit. IsLong files unit ⊎ HasNoUnit files unit)
+refusal units files status.Syntax = FirstStop (IsCompiled files) units (HasSyntaxFault files)
+refusal units files status.Limit = FirstStop (IsCompiled files) units (λ unit. PassesLimit files unit ⊎ HasNoUnit files unit)
 refusal units files status.Doubled = AllCompiled units files (λ items. (unit : ℕ) × (name : List ℕ) × (source_fault items ≡ Some (source.Doubled unit name)))
 refusal units files status.Unresolved = AllCompiled units files (λ items. (unit : ℕ) × (name : List ℕ) × (source_fault items ≡ Some (source.Unresolved unit name)))
 refusal units files status.Range = AllCompiled units files (λ items. (source_fault items ≡ None) × ((end : ℕ) × (too_long (linked_objects items) ≡ Some (linking.Range end))))

@@ -2,7 +2,7 @@
 use Rattle.std.specs.Prelude.{◌≡◌, ◌⊎◌, List, ℕ, [], ◌∷◌, ◌++◌, map, option_map}
 use Rattle.cc_base.specs.Seen.{FilesSeen, SourceSeen, SinkSeen}
 use Rattle.cc_base.specs.Outside.{all_out, SinkFailed}
-use Rattle.command_words.specs.Commands.{Request, Compile, Link, Run, Exec, object_name}
+use Rattle.command_words.specs.Commands.{Request, Compile, Link, Run, Show, Exec, object_name}
 use Rattle.ccelf_build.specs.Contents.{Contents, NamedBytes, put_all}
 
 -- the names that a command puts, in order
@@ -10,6 +10,7 @@ abbrev pub names_put : Request → List (List ℕ)
 names_put (Compile unit object) = object ∷ []
 names_put (Link image objects) = image ∷ []
 names_put (Run steps image) = []
+names_put (Show unit) = []
 names_put (Exec steps image units) = map object_name units ++ image ∷ []
 
 -- The contents are the old ones with some puts, of the first of these names, in their order.
@@ -28,9 +29,10 @@ pub record PutsNothing (old new : FilesSeen) : Type 0 where
   pub told : new.told ≡ old.told
   pub writes : new.write_faults ≡ old.write_faults
 
--- What a command does not touch: compile and link ask for no byte and give none, and run puts nothing.
+-- What a command does not touch: compile and link ask for no byte and give none, run puts nothing, and show puts nothing and asks for no byte.
 abbrev pub LeavesAlone : Request → FilesSeen → FilesSeen → SourceSeen → SourceSeen → SinkSeen → SinkSeen → Type 0
 LeavesAlone (Compile unit object) files files' input input' output output' = (input' ≡ input) × OnlyFlushed output output'
 LeavesAlone (Link image objects) files files' input input' output output' = (input' ≡ input) × OnlyFlushed output output'
 LeavesAlone (Run steps image) files files' input input' output output' = PutsNothing files files'
+LeavesAlone (Show unit) files files' input input' output output' = (input' ≡ input) × PutsNothing files files'
 LeavesAlone (Exec steps image units) files files' input input' output output' = Unit {0}

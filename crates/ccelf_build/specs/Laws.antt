@@ -1,6 +1,9 @@
 -- Laws of the crates below that the promises rest on.
-use Rattle.std.specs.Prelude.{◌≡◌, ◌≢◌, ℕ, List, All, None}
+use Rattle.std.specs.Prelude.{◌≡◌, ◌≢◌, ℕ, List, All, None, Result}
 use Rattle.cc_base.specs.declared.run.Outcome.TheVariants.{Wrong}
+use Rattle.clight_text.specs.declared.tree.External.{External}
+use Rattle.clight_text.specs.declared.fault.SyntaxFault.{SyntaxFault}
+use Rattle.clight_parser.specs.Parsing.{HasAnswer, OneAnswer}
 use Rattle.clight_syntax.specs.declared.second_items.Item.{Item}
 use Rattle.clight_syntax.specs.SecondForm.{IsSecondForm}
 use Rattle.clight_syntax.specs.SecondFaults.{source_fault}
@@ -17,6 +20,8 @@ use Rattle.second_code.specs.FoundFaults.{IsFoundAs}
 use Rattle.second_code.specs.LinkedObjects.{IsUnit, linked_objects}
 
 pub record Laws : Type 0 where
+  -- a text has one answer of the parser, but for want of memory
+  pub one_answer : (text : List ℕ) (one other : Result (List External) SyntaxFault) → HasAnswer text one → HasAnswer text other → OneAnswer one other
   -- a text has one list of items
   pub one_form : (text : List ℕ) (one other : List Item) → IsSecondForm text one → IsSecondForm text other → one ≡ other
   -- a file is the object of one parts, and the image of one parts

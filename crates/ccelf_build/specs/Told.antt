@@ -1,9 +1,15 @@
 -- What each command comes to where the files tell their bytes, and for a run the input too: one row for each answer.
 use Rattle.std.specs.Prelude.{◌≡◌, ◌⊎◌, ℕ, ◌+◌, ◌<◌, List, [], ◌∷◌, ◌++◌, map, length, drop, Some, None, Err}
-use Rattle.cc_base.specs.Outside.{grown}
+use Rattle.cc_base.specs.Seen.{SinkSeen}
+use Rattle.cc_base.specs.Outside.{SinkFailed, SinkWanted, grown}
 use Rattle.cc_base.specs.Runs.{emitted, taken}
 use Rattle.cc_base.specs.declared.run.Act.{Act}
 use Rattle.cc_base.specs.declared.run.Outcome.TheVariants as outcome
+use Rattle.clight_text.specs.declared.tree.External.{External}
+use Rattle.clight_text.specs.declared.fault.SyntaxFault.{SyntaxFault}
+use Rattle.clight_text.specs.declared.fault.SyntaxFault.TheVariants as syntax
+use Rattle.clight_parser.specs.Parsing.{HasTree, HasAnswer}
+use Rattle.clight_print.specs.Canonical.{canonical_text}
 use Rattle.clight_syntax.specs.declared.second_items.Item.{Item}
 use Rattle.clight_syntax.specs.SecondForm.{IsSecondForm}
 use Rattle.clight_syntax.specs.SecondFaults.{source_fault}
@@ -28,7 +34,8 @@ use Rattle.second_code.specs.LinkedObjects.{linked_objects}
 use Rattle.command_words.specs.Commands.{object_name}
 use Rattle.commands.specs.declared.answer.Answer.TheVariants as answer
 use Rattle.commands.specs.Doing.{Outside, Command}
-use Rattle.commands.specs.Steps.{IsNoUnit, AreObjectFiles, IsFirstNoObject, IsLinkedImage, LinkedBy, file_name, IsAsked, IsGiven}
+use Rattle.commands.specs.Giving.{CutShort}
+use Rattle.commands.specs.Steps.{fault_at, IsText, IsNoUnit, AreObjectFiles, IsFirstNoObject, IsLinkedImage, LinkedBy, file_name, IsAsked, IsGiven}
 use Rattle.ccelf_build.specs.Contents.{Contents, StandsAt, IsAbsent, IsLong, AreAll, FirstStop, NamedBytes, put_all, DidPut}
 
 -- a unit that was compiled: its items and the bytes of its object
@@ -36,21 +43,29 @@ pub record Compiled : Type 0 where
   pub items : List Item
   pub object : List ℕ
 
--- Under the name stands a text of these items, and the object is the one file that is written for them. No other text has a part in it.
+-- Under the name stands a unit's text of these items, and the object is the one file that is written for them. No other text has a part in it.
 pub record IsCompiled (files : Contents) (unit : List ℕ) (made : Compiled) : Type 0 where
   pub text : List ℕ
   pub stands : StandsAt files unit text
+  pub is_text : IsText text
   pub form : IsSecondForm text made.items
   pub written : IsFileOf (parts_of made.items) made.object
 
--- under the name stands a text that is no unit's
+-- under the name stands a unit's text that is not of the form
 abbrev pub HasNoUnit : Contents → List ℕ → Type 0
-HasNoUnit files unit = (text : List ℕ) × StandsAt files unit text × IsNoUnit text
+HasNoUnit files unit = (text : List ℕ) × StandsAt files unit text × IsText text × IsNoUnit text
+
+-- under the name stands a text with this fault, which is no unit's
+abbrev pub HasFault : Contents → List ℕ → SyntaxFault → Type 0
+HasFault files unit fault = (text : List ℕ) × StandsAt files unit text × HasAnswer text (Err fault)
 
 -- compile: the object of the unit is put under its name
 abbrev pub compile_told : List ℕ → List ℕ → Contents → Command
 compile_told unit object files old (answer.Missing which) new = (which ≡ unit) × IsAbsent files unit × DidPut files [] old new
 compile_told unit object files old (answer.LimitFile which) new = (which ≡ unit) × IsLong files unit × DidPut files [] old new
+compile_told unit object files old (answer.LimitText which) new = (which ≡ unit) × HasFault files unit syntax.Long × DidPut files [] old new
+compile_told unit object files old (answer.LimitDeep which at) new = (which ≡ unit) × HasFault files unit (syntax.Deep at) × DidPut files [] old new
+compile_told unit object files old (answer.Syntax which kind at) new = (which ≡ unit) × HasFault files unit (fault_at kind at) × DidPut files [] old new
 compile_told unit object files old (answer.LimitForm which) new = (which ≡ unit) × HasNoUnit files unit × DidPut files [] old new
 compile_told unit object files old (answer.ObjectStored size) new =
     (made : Compiled) × IsCompiled files unit made × (size ≡ length made.object) × DidPut files (record { name = object; bytes = made.object } ∷ []) old new
@@ -59,6 +74,37 @@ compile_told unit object files old answer.WriteFault new = DidPut files [] old n
 compile_told unit object files old answer.Memory new =
     DidPut files [] old new ⊎ ((made : Compiled) × IsCompiled files unit made × DidPut files (record { name = object; bytes = made.object } ∷ []) old new)
 compile_told unit object files old _ new = ⊥
+
+-- under the name stands a unit's text of this tree
+pub record HasTreeAt (files : Contents) (unit : List ℕ) (tree : List External) : Type 0 where
+  pub text : List ℕ
+  pub stands : StandsAt files unit text
+  pub parsed : HasTree text tree
+
+-- the output did this with the canonical text of the unit's one tree, and nothing was put or taken
+pub record ShowsIt (unit : List ℕ) (files : Contents) (gives : SinkSeen → List ℕ → SinkSeen → Type 0) (old new : Outside) : Type 0 where
+  pub tree : List External
+  pub is : HasTreeAt files unit tree
+  pub given : gives old.output (canonical_text tree) new.output
+  pub files_kept : new.files.told ≡ Some files
+  pub input_kept : new.input ≡ old.input
+
+-- the output has grown by all of the text
+abbrev pub AllGiven : SinkSeen → List ℕ → SinkSeen → Type 0
+AllGiven old text new = new ≡ grown old text
+
+-- show: the canonical text of the unit is given
+abbrev pub show_told : List ℕ → Contents → Command
+show_told unit files old (answer.Missing which) new = (which ≡ unit) × IsAbsent files unit × DidPut files [] old new
+show_told unit files old (answer.LimitFile which) new = (which ≡ unit) × IsLong files unit × DidPut files [] old new
+show_told unit files old (answer.LimitText which) new = (which ≡ unit) × HasFault files unit syntax.Long × DidPut files [] old new
+show_told unit files old (answer.LimitDeep which at) new = (which ≡ unit) × HasFault files unit (syntax.Deep at) × DidPut files [] old new
+show_told unit files old (answer.Syntax which kind at) new = (which ≡ unit) × HasFault files unit (fault_at kind at) × DidPut files [] old new
+show_told unit files old answer.Shown new = ShowsIt unit files AllGiven old new
+show_told unit files old answer.ReadFault new = DidPut files [] old new
+show_told unit files old answer.WriteFault new = ShowsIt unit files (CutShort SinkFailed) old new
+show_told unit files old answer.Memory new = DidPut files [] old new ⊎ ShowsIt unit files (CutShort SinkWanted) old new
+show_told unit files old _ new = ⊥
 
 -- the file is the object of a text of these items
 pub record IsMade (items : List Item) (file : List ℕ) : Type 0 where
@@ -230,6 +276,9 @@ BuildsAndRuns steps image units files input old told new = Builds (λ parts befo
 abbrev pub exec_told : ℕ → List ℕ → List (List ℕ) → Contents → List ℕ → Command
 exec_told steps image units files input old (answer.Missing which) new = UnitStops (λ unit. (which ≡ unit) × IsAbsent files unit) units files old new
 exec_told steps image units files input old (answer.LimitFile which) new = UnitStops (λ unit. (which ≡ unit) × IsLong files unit) units files old new
+exec_told steps image units files input old (answer.LimitText which) new = UnitStops (λ unit. (which ≡ unit) × HasFault files unit syntax.Long) units files old new
+exec_told steps image units files input old (answer.LimitDeep which at) new = UnitStops (λ unit. (which ≡ unit) × HasFault files unit (syntax.Deep at)) units files old new
+exec_told steps image units files input old (answer.Syntax which kind at) new = UnitStops (λ unit. (which ≡ unit) × HasFault files unit (fault_at kind at)) units files old new
 exec_told steps image units files input old (answer.LimitForm which) new = UnitStops (λ unit. (which ≡ unit) × HasNoUnit files unit) units files old new
 exec_told steps image units files input old (answer.Doubled name file) new =
     AllPut (λ items. (unit : ℕ) × (source_fault items ≡ Some (source.Doubled unit name)) × (file ≡ file_name (map object_name units) unit)) units files old new

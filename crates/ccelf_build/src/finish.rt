@@ -2,19 +2,17 @@
 ghost use Rattle.ccelf_build.specs.Ends.{Ends, Said};
 
 use cc_base::{GiveFault, Sink};
-use commands::{Answer, Status, line};
+use commands::{Answer, Status, give_all, line};
 use std::alloc::Global;
 
 // Gives the line, and flushes the report.
 fn say<R: Sink>(line: &[u8], report: &mut R) -> Result<(), Status>
     ensures { Said line.now (R.seen report.old) result (R.seen report.new) }
 {
-    for byte in line {
-        match report.give(*byte) {
-            Ok(()) => {}
-            Err(GiveFault::Failed) => return Err(Status::WriteFault),
-            Err(GiveFault::Memory) => return Err(Status::Memory),
-        }
+    match give_all(line, report) {
+        Ok(()) => {}
+        Err(GiveFault::Failed) => return Err(Status::WriteFault),
+        Err(GiveFault::Memory) => return Err(Status::Memory),
     }
     match report.flush() {
         Ok(()) => Ok(()),

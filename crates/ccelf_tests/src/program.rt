@@ -82,7 +82,7 @@ const H_AND_7: &str = "int main(void) { putbyte(72); return 7; }";
 #[test]
 fn units_run(rt: HostRuntime) -> Result<(), Fail> {
     // The start calls main, which returns to three more instructions; a byte takes 12.
-    let rows: [(&str, &str, &str, &str, Status); 8] = [
+    let rows: [(&str, &str, &str, &str, Status); 9] = [
         (
             "int main(void) { return 7; }",
             "1000",
@@ -113,6 +113,13 @@ fn units_run(rt: HostRuntime) -> Result<(), Fail> {
             "",
             "a.c: limit form\n",
             Status::Limit,
+        ),
+        (
+            "int main(void) { return 1 + ; }",
+            "1000",
+            "",
+            "a.c: syntax token 28\n",
+            Status::Syntax,
         ),
         (
             "int f(void) { return 7; }",
@@ -218,6 +225,54 @@ fn faults_end_the_command(rt: HostRuntime) -> Result<(), Fail> {
         assert_eq!(rt; ended.status, status, "{what}");
         assert_eq!(rt; ended.output.bytes(), output.as_bytes(), "{what}");
         assert_eq!(rt; ended.report.bytes(), report.as_bytes(), "{what}");
+    }
+    Ok(())
+}
+
+#[test]
+fn texts_are_shown(rt: HostRuntime) -> Result<(), Fail> {
+    let rows: [(&str, Fails, &str, &str, Status); 5] = [
+        (
+            "int main(){return 7;}",
+            NONE,
+            "int main ( void ) { return 7 ; }\n",
+            "",
+            Status::Done,
+        ),
+        (
+            "int x;",
+            Fails { output: 4, ..NONE },
+            "int",
+            "",
+            Status::WriteFault,
+        ),
+        (
+            "int x;",
+            Fails { files: 2, ..NONE },
+            "",
+            "read\n",
+            Status::ReadFault,
+        ),
+        (
+            "int x = 1 @ 2;",
+            NONE,
+            "",
+            "a.c: syntax char 10\n",
+            Status::Syntax,
+        ),
+        (
+            "int x = 4294967296u;",
+            NONE,
+            "",
+            "a.c: syntax literal 8\n",
+            Status::Syntax,
+        ),
+    ];
+    for (text, fails, output, report, status) in rows {
+        let ended = end_of(rt.alloc(), &["show", "a.c"], text.as_bytes(), fails)?;
+        assert_eq!(rt; ended.status, status, "{text}");
+        assert_eq!(rt; ended.output.bytes(), output.as_bytes(), "{text}");
+        assert_eq!(rt; ended.report.bytes(), report.as_bytes(), "{text}");
     }
     Ok(())
 }

@@ -4,7 +4,7 @@ use Rattle.std.specs.Prelude.{option_map, IfNone}
 use Rattle.std.specs.Str.{bytes_eq}
 use Rattle.std.proofs.lemmas.Option.{none-some}
 use Rattle.std.proofs.lemmas.Slice.Eq.{bytes_eq-Decides}
-use Rattle.command_words.specs.Commands.{IsUnit, Request, Compile, Link, Run, Exec, Fits, FitsNone, FitsCompile}
+use Rattle.command_words.specs.Commands.{IsUnit, Request, Compile, Link, Run, Show, Exec, Fits, FitsNone, FitsCompile, FitsShow}
 use Rattle.command_words.specs.declared.words.Order.{Order}
 use Rattle.command_words.specs.Orders.{request_of}
 use Rattle.command_words.proofs.NameFacts.{two_names}
@@ -15,12 +15,14 @@ abbrev pub command_of : Request → List ℕ
 command_of (Compile unit object) = codes "compile"
 command_of (Link image objects) = codes "link"
 command_of (Run steps image) = codes "run"
+command_of (Show unit) = codes "show"
 command_of (Exec steps image units) = codes "exec"
 
 first_word : (words : List (List ℕ)) (r : Request) → Fits words r → (rest : List (List ℕ)) × (words ≡ command_of r ∷ rest)
 first_word words (Compile unit object) fits = (_, fits.spelled)
 first_word words (Link image objects) fits = (_, fits.spelled)
 first_word words (Run steps image) fits = (_, fits.spelled)
+first_word words (Show unit) fits = (_, fits.spelled)
 first_word words (Exec steps image units) fits = (_, fits.spelled)
 
 first_of : List (List ℕ) → List ℕ
@@ -65,4 +67,14 @@ pub compile_only : (words rest : List (List ℕ)) (o : Option Request) → words
 compile_only words rest o e only (Compile unit object) fits = only unit object (subst (λ ws. FitsCompile ws unit object) e fits)
 compile_only words rest o e only (Link image objects) fits = let k = first_bytes _ _ (spelled_as words rest _ (Link image objects) e fits) in absurd (omega (arith, k))
 compile_only words rest o e only (Run steps image) fits = let k = first_bytes _ _ (spelled_as words rest _ (Run steps image) e fits) in absurd (omega (arith, k))
+compile_only words rest o e only (Show unit) fits = let k = first_bytes _ _ (spelled_as words rest _ (Show unit) e fits) in absurd (omega (arith, k))
 compile_only words rest o e only (Exec steps image units) fits = let k = first_bytes _ _ (spelled_as words rest _ (Exec steps image units) e fits) in absurd (omega (arith, k))
+
+-- show
+pub show_only : (words rest : List (List ℕ)) (o : Option Request) → words ≡ codes "show" ∷ rest → ((unit : List ℕ) → FitsShow (codes "show" ∷ rest) unit → o ≡ Some (Show unit))
+    → (r : Request) → Fits words r → o ≡ Some r
+show_only words rest o e only (Compile unit object) fits = let k = first_bytes _ _ (spelled_as words rest _ (Compile unit object) e fits) in absurd (omega (arith, k))
+show_only words rest o e only (Link image objects) fits = let k = first_bytes _ _ (spelled_as words rest _ (Link image objects) e fits) in absurd (omega (arith, k))
+show_only words rest o e only (Run steps image) fits = let k = first_bytes _ _ (spelled_as words rest _ (Run steps image) e fits) in absurd (omega (arith, k))
+show_only words rest o e only (Show unit) fits = only unit (subst (λ ws. FitsShow ws unit) e fits)
+show_only words rest o e only (Exec steps image units) fits = let k = first_bytes _ _ (spelled_as words rest _ (Exec steps image units) e fits) in absurd (omega (arith, k))

@@ -26,6 +26,7 @@ pub data Request : Type 0 where
   Compile : (unit object : List ℕ) → Request
   Link : (image : List ℕ) (objects : List (List ℕ)) → Request
   Run : (steps : ℕ) (image : List ℕ) → Request
+  Show : (unit : List ℕ) → Request
   Exec : (steps : ℕ) (image : List ℕ) (units : List (List ℕ)) → Request
 
 -- compile UNIT OBJECT
@@ -46,6 +47,11 @@ pub record FitsRun (words : List (List ℕ)) (steps : ℕ) (image : List ℕ) : 
   pub in_range : steps ≤ 4294967295
   pub names : AreNames (image ∷ [])
 
+-- show UNIT
+pub record FitsShow (words : List (List ℕ)) (unit : List ℕ) : Type 0 where
+  pub spelled : words ≡ codes "show" ∷ unit ∷ []
+  pub is_unit : IsUnit unit
+
 -- exec STEPS IMAGE UNIT..: the units' objects are files of the command too
 pub record FitsExec (words : List (List ℕ)) (steps : ℕ) (image : List ℕ) (units : List (List ℕ)) : Type 0 where
   pub spelled : words ≡ codes "exec" ∷ decimal steps ∷ image ∷ units
@@ -59,6 +65,7 @@ abbrev pub Fits : List (List ℕ) → Request → Type 0
 Fits words (Compile unit object) = FitsCompile words unit object
 Fits words (Link image objects) = FitsLink words image objects
 Fits words (Run steps image) = FitsRun words steps image
+Fits words (Show unit) = FitsShow words unit
 Fits words (Exec steps image units) = FitsExec words steps image units
 
 -- words that no command fits

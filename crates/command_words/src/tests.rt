@@ -25,6 +25,7 @@ fn push_names(text: &mut String, names: &[String]) -> Result<(), AllocError> {
 fn told(alloc: Global, order: &Order<'_>) -> Result<String, AllocError> {
     match order {
         Order::Compile { unit, object } => format!(in alloc; "compile {unit} {object}"),
+        Order::Show { unit } => format!(in alloc; "show {unit}"),
         Order::Run { steps, image } => format!(in alloc; "run {steps} {image}"),
         Order::Link { image, objects } => {
             let mut text = format!(in alloc; "link {image}")?;
@@ -55,6 +56,7 @@ fn lines_are_read(rt: HostRuntime) -> Result<(), Fail> {
         ("run 10 out", "run 10 out"),
         ("run 0 out", "run 0 out"),
         ("run 4294967295 out", "run 4294967295 out"),
+        ("show a.c", "show a.c"),
         ("exec 10 out a.c", "exec 10 out a.c to a.o"),
         ("exec 0 out b.c a.b.c", "exec 0 out b.c a.b.c to b.o a.b.o"),
         ("exec 10 a.o a.c", ""),
@@ -65,6 +67,10 @@ fn lines_are_read(rt: HostRuntime) -> Result<(), Fail> {
         ("exec 10  a.c", ""),
         ("exec 10 out", ""),
         ("exec ten out a.c", ""),
+        ("show a.o", ""),
+        ("show .c", ""),
+        ("show a.c b.c", ""),
+        ("show", ""),
         ("run 007 out", ""),
         ("run 4294967296 out", ""),
         ("run +1 out", ""),

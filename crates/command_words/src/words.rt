@@ -1,6 +1,6 @@
 // Reads the words.
 ghost use Rattle.std.specs.Prelude.{◌≡◌, ◌<◌, ◌≤◌, ◌↔◌, [], ◌∷◌, List, ℕ, length, None, Some, Option, option_map, decimal, IfOk, IfSome, IfNone, IsTrue, codes};
-ghost use Rattle.command_words.specs.Commands.{AreFew, Request, Compile, Link, Run, Exec, Fits, FitsNone, FitsCompile, FitsLink, FitsRun, FitsExec};
+ghost use Rattle.command_words.specs.Commands.{AreFew, Request, Compile, Link, Run, Show, Exec, Fits, FitsNone, FitsCompile, FitsLink, FitsRun, FitsShow, FitsExec};
 ghost use Rattle.command_words.specs.Orders.{texts, request_of, NamesObjects};
 
 use crate::names::{are_names, are_units, is_unit, objects_of};
@@ -27,6 +27,10 @@ pub enum Order<'a> {
     Run {
         steps: u32,
         image: &'a str,
+    },
+    /// Shows the text of a unit.
+    Show {
+        unit: &'a str,
     },
     /// Compiles each of one to 4,096 units to the object beside it, links these to an image, and runs it.
     Exec {
@@ -120,6 +124,22 @@ fn read_run<'a>(words: &'a [String]) -> Option<Order<'a>>
     Some(Order::Run { steps, image })
 }
 
+// The order that the words behind show spell.
+fn read_show<'a>(words: &'a [String]) -> Option<Order<'a>>
+    ensures some { IfSome result (λ order. Fits (codes "show" ∷ texts words.now) (request_of order)) }
+    ensures objects { IfSome result NamesObjects }
+    ensures only { (unit : List ℕ) → FitsShow (codes "show" ∷ texts words.now) unit → option_map request_of result ≡ Some (Show unit) }
+{
+    let [unit] = words else {
+        return None;
+    };
+    let unit = unit.as_str();
+    if !is_unit(unit) {
+        return None;
+    }
+    Some(Order::Show { unit })
+}
+
 // The order that the words behind exec spell.
 fn read_exec<'a>(alloc: Global, words: &'a [String]) -> Result<Option<Order<'a>>, AllocError>
     ensures some { IfOk result (λ o. IfSome o (λ order. Fits (codes "exec" ∷ texts words.now) (request_of order))) }
@@ -171,6 +191,9 @@ pub fn read<'a>(alloc: Global, words: &'a [String]) -> Result<Option<Order<'a>>,
     }
     if command == "run" {
         return Ok(read_run(rest));
+    }
+    if command == "show" {
+        return Ok(read_show(rest));
     }
     if command == "exec" {
         return read_exec(alloc, rest);

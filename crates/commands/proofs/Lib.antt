@@ -1,5 +1,7 @@
+pub mod Growing
 pub mod EachSteps
 pub mod Compilations
+pub mod Shows
 pub mod FromMachine
 pub mod Readings
 pub mod FaultPlaces

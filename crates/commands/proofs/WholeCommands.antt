@@ -56,7 +56,7 @@ pub made_small : (unit name file : List ℕ) (old new : Outside) → CompilesTo 
 made_small unit name file old new h =
     let a = h.goes_on in let b = a.goes_on in
     let same = kept_value file a.value b.goes_on.0 in
-    subst IsSmall same (object_small h.value a.value a.went.0)
+    subst IsSmall same (object_small h.value a.value a.went.0.1)
 
 -- steps that give files, which are linked; the image is put, and the rest goes on with its bytes
 abbrev pub Whole : {X : Type 0} → (X → Step (List ℕ)) → List X → List (List ℕ) → List ℕ → (List ℕ → Command) → Command

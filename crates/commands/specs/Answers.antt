@@ -1,7 +1,7 @@
 -- The status of each answer.
 use Rattle.std.specs.Prelude.{ℕ}
 use Rattle.commands.specs.declared.answer.Answer.{Answer}
-use Rattle.commands.specs.declared.answer.Answer.TheVariants.{Words, Memory, Missing, ReadFault, WriteFault, LimitFile, LimitForm, ObjectForm, Doubled, Unresolved, Sized, Range, ImageForm, ImageSegment, ImageEntry, ObjectStored, ImageStored, Ended, Spent, Stuck}
+use Rattle.commands.specs.declared.answer.Answer.TheVariants.{Words, Memory, Missing, ReadFault, WriteFault, LimitFile, LimitText, LimitDeep, Syntax, LimitForm, ObjectForm, Doubled, Unresolved, Sized, Range, ImageForm, ImageSegment, ImageEntry, ObjectStored, ImageStored, Shown, Ended, Spent, Stuck}
 use Rattle.commands.specs.declared.answer.Status.{Status}
 use Rattle.commands.specs.declared.answer.Status.TheVariants as status
 
@@ -12,6 +12,9 @@ status_of (Missing name) = status.Missing
 status_of ReadFault = status.ReadFault
 status_of WriteFault = status.WriteFault
 status_of (LimitFile name) = status.Limit
+status_of (LimitText name) = status.Limit
+status_of (LimitDeep file at) = status.Limit
+status_of (Syntax file kind at) = status.Syntax
 status_of (LimitForm name) = status.Limit
 status_of (ObjectForm name) = status.Object
 status_of (Doubled name file) = status.Doubled
@@ -23,6 +26,7 @@ status_of (ImageSegment file index) = status.Image
 status_of (ImageEntry name) = status.Image
 status_of (ObjectStored length) = status.Done
 status_of (ImageStored length) = status.Done
+status_of Shown = status.Done
 status_of (Ended code) = status.Done
 status_of Spent = status.Spent
 status_of (Stuck eip cause) = status.Stuck
@@ -35,6 +39,7 @@ number_of status.Memory = 3
 number_of status.Missing = 4
 number_of status.ReadFault = 5
 number_of status.WriteFault = 6
+number_of status.Syntax = 7
 number_of status.Limit = 9
 number_of status.Object = 10
 number_of status.Doubled = 11

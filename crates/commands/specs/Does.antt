@@ -1,9 +1,10 @@
 -- What each command does, in this order.
 use Rattle.std.specs.Prelude.{ℕ, List, length, map}
-use Rattle.command_words.specs.Commands.{Request, Compile, Link, Run, Exec, object_name}
+use Rattle.clight_print.specs.Canonical.{canonical_text}
+use Rattle.command_words.specs.Commands.{Request, Compile, Link, Run, Show, Exec, object_name}
 use Rattle.commands.specs.declared.answer.Answer.TheVariants as answer
 use Rattle.commands.specs.Doing.{Command, Says, Then, Each}
-use Rattle.commands.specs.Steps.{Fetches, Stores, CompilesTo, Links, Runs}
+use Rattle.commands.specs.Steps.{Fetches, Stores, Parses, CompilesTo, Links, Runs, Keeps, GivesOut}
 
 -- compile: get UNIT, compile it, put OBJECT
 abbrev pub compile_does : List ℕ → List ℕ → Command
@@ -21,6 +22,15 @@ link_does image objects =
 abbrev pub run_does : ℕ → List ℕ → Command
 run_does steps image = Then (Fetches image) (λ bytes. Runs steps image bytes)
 
+-- show: get UNIT, parse it, give its canonical text
+abbrev pub show_does : List ℕ → Command
+show_does unit =
+    Then (Fetches unit) (λ text.
+    Then (Parses unit text) (λ tree.
+    Then (Keeps (canonical_text tree)) (λ shown.
+    Then (GivesOut shown) (λ _.
+    Says answer.Shown))))
+
 -- exec: for each unit get it, compile it and put its object; read these bytes and link them, put IMAGE; read, load and run the bytes that were put
 abbrev pub exec_does : ℕ → List ℕ → List (List ℕ) → Command
 exec_does steps image units =
@@ -33,4 +43,5 @@ abbrev pub does : Request → Command
 does (Compile unit object) = compile_does unit object
 does (Link image objects) = link_does image objects
 does (Run steps image) = run_does steps image
+does (Show unit) = show_does unit
 does (Exec steps image units) = exec_does steps image units

@@ -1,4 +1,5 @@
 pub mod Doing
+pub mod Giving
 pub mod Answers
 pub mod Steps
 pub mod Does

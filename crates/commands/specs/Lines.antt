@@ -3,8 +3,10 @@ use Rattle.std.specs.Prelude.{ℕ, List, [], ◌∷◌, ◌++◌, codes, decimal
 use Rattle.cc_base.specs.NumberText.{hex_of}
 use Rattle.i386_machine.specs.declared.event.Cause.{Cause}
 use Rattle.i386_machine.specs.declared.event.Cause.TheVariants as cause
+use Rattle.commands.specs.declared.answer.SyntaxKind.{SyntaxKind}
+use Rattle.commands.specs.declared.answer.SyntaxKind.TheVariants as kind
 use Rattle.commands.specs.declared.answer.Answer.{Answer}
-use Rattle.commands.specs.declared.answer.Answer.TheVariants.{Words, Memory, Missing, ReadFault, WriteFault, LimitFile, LimitForm, ObjectForm, Doubled, Unresolved, Sized, Range, ImageForm, ImageSegment, ImageEntry, ObjectStored, ImageStored, Ended, Spent, Stuck}
+use Rattle.commands.specs.declared.answer.Answer.TheVariants.{Words, Memory, Missing, ReadFault, WriteFault, LimitFile, LimitText, LimitDeep, Syntax, LimitForm, ObjectForm, Doubled, Unresolved, Sized, Range, ImageForm, ImageSegment, ImageEntry, ObjectStored, ImageStored, Shown, Ended, Spent, Stuck}
 
 -- a byte of a symbol's name; one that is no visible character of ASCII shows as a question mark
 abbrev pub shown_byte : ℕ → ℕ
@@ -26,6 +28,12 @@ cause_words cause.Divide = codes "divide"
 cause_words cause.Flags = codes "flags"
 cause_words cause.System = codes "system"
 
+-- what is wrong with a text
+abbrev pub kind_words : SyntaxKind → List ℕ
+kind_words kind.Char = codes "char"
+kind_words kind.Literal = codes "literal"
+kind_words kind.Token = codes "token"
+
 -- the words of an answer, or nothing where there is no line
 abbrev pub words_of : Answer → List ℕ
 words_of Words = codes "words"
@@ -34,6 +42,9 @@ words_of (Missing name) = codes "missing " ++ name
 words_of ReadFault = codes "read"
 words_of WriteFault = []
 words_of (LimitFile name) = name ++ codes ": limit file"
+words_of (LimitText name) = name ++ codes ": limit text"
+words_of (LimitDeep file at) = file ++ codes ": limit deep " ++ decimal at
+words_of (Syntax file kind at) = file ++ codes ": syntax " ++ kind_words kind ++ codes " " ++ decimal at
 words_of (LimitForm name) = name ++ codes ": limit form"
 words_of (ObjectForm name) = name ++ codes ": object form"
 words_of (Doubled name file) = codes "doubled " ++ shown name ++ codes " " ++ file
@@ -45,6 +56,7 @@ words_of (ImageSegment file index) = file ++ codes ": image segment " ++ decimal
 words_of (ImageEntry name) = name ++ codes ": image entry"
 words_of (ObjectStored length) = codes "object " ++ decimal length
 words_of (ImageStored length) = codes "image " ++ decimal length
+words_of Shown = []
 words_of (Ended code) = codes "exit " ++ decimal code
 words_of Spent = codes "spent"
 words_of (Stuck eip cause) = codes "stuck " ++ address eip ++ codes " " ++ cause_words cause

@@ -1,12 +1,16 @@
 -- The steps of commands. Each says which answers it may have, and when.
 use Rattle.std.specs.Prelude.{◌≡◌, ◌⊎◌, ℕ, ◌+◌, ◌<◌, List, [], ◌∷◌, ◌++◌, Some, None, option_map, Result, Ok, Err, drop, codes, slice_index_or}
-use Rattle.cc_base.specs.Seen.{FilesSeen}
+use Rattle.cc_base.specs.Seen.{FilesSeen, SinkSeen}
 use Rattle.cc_base.specs.Outside.{Got, NotThere, TooLong, ReadFailed, WriteFailed, stored, SourceFailed, SinkFailed, SinkWanted, grown}
 use Rattle.cc_base.specs.Runs.{emitted, taken}
 use Rattle.cc_base.specs.declared.run.Act.{Act}
 use Rattle.cc_base.specs.declared.run.Act.TheVariants.{Took, AtEnd, Gave}
 use Rattle.cc_base.specs.declared.run.Outcome.{Outcome}
 use Rattle.cc_base.specs.declared.run.Outcome.TheVariants as outcome
+use Rattle.clight_text.specs.declared.tree.External.{External}
+use Rattle.clight_text.specs.declared.fault.SyntaxFault.{SyntaxFault}
+use Rattle.clight_text.specs.declared.fault.SyntaxFault.TheVariants as syntax
+use Rattle.clight_parser.specs.Parsing.{HasTree, HasAnswer}
 use Rattle.clight_syntax.specs.SecondForm.{IsSecondForm}
 use Rattle.clight_syntax.specs.declared.second_items.Item.{Item}
 use Rattle.second_code.specs.Objects.{IsObjectOf}
@@ -24,9 +28,12 @@ use Rattle.image_loader.specs.declared.fault.LoadFault.TheVariants as load
 use Rattle.i386_machine.specs.declared.event.Cause.{Cause}
 use Rattle.i386_machine.specs.declared.event.Standing.TheVariants as standing
 use Rattle.i386_machine.specs.Runs.{after}
+use Rattle.commands.specs.declared.answer.SyntaxKind.{SyntaxKind}
+use Rattle.commands.specs.declared.answer.SyntaxKind.TheVariants as kind
 use Rattle.commands.specs.declared.answer.Answer.{Answer}
 use Rattle.commands.specs.declared.answer.Answer.TheVariants as answer
 use Rattle.commands.specs.Doing.{Outside, Step, Command, AndThen}
+use Rattle.commands.specs.Giving.{CutShort}
 
 -- a file is got
 abbrev pub Fetched : FilesSeen → List ℕ → Result (List ℕ) Answer → FilesSeen → Type 0
@@ -56,16 +63,37 @@ Fetches name = OnFiles (λ old result new. Fetched old name result new)
 abbrev pub Stores : List ℕ → List ℕ → Step (Unit {0})
 Stores name bytes = OnFiles (λ old result new. Put old name bytes result new)
 
+-- a fault of syntax
+abbrev pub fault_at : SyntaxKind → ℕ → SyntaxFault
+fault_at kind.Char at = syntax.Char at
+fault_at kind.Literal at = syntax.Literal at
+fault_at kind.Token at = syntax.Token at
+
+-- the text is a unit's text of this tree; else the answer says what is wrong with it
+abbrev pub Parsed : List ℕ → List ℕ → Result (List External) Answer → Type 0
+Parsed name text (Ok tree) = HasTree text tree
+Parsed name text (Err (answer.LimitText which)) = HasAnswer text (Err syntax.Long) × (which ≡ name)
+Parsed name text (Err (answer.LimitDeep which at)) = HasAnswer text (Err (syntax.Deep at)) × (which ≡ name)
+Parsed name text (Err (answer.Syntax which kind at)) = HasAnswer text (Err (fault_at kind at)) × (which ≡ name)
+Parsed name text (Err answer.Memory) = Unit {0}
+Parsed name text (Err _) = ⊥
+
+abbrev pub Parses : List ℕ → List ℕ → Step (List External)
+Parses name text old result new = Parsed name text result × (new ≡ old)
+
 -- no items are those of the text
 abbrev pub IsNoUnit : List ℕ → Type 0
 IsNoUnit text = (items : List Item) → ¬ IsSecondForm text items
 
--- the text is a unit's, and the bytes are its object; else the answer says so
+-- the text is a unit's text within the limits
+abbrev pub IsText : List ℕ → Type 0
+IsText text = (tree : List External) × HasTree text tree
+
+-- the text is a unit's text, it is of the form, and the bytes are its object; else the answer says so
 abbrev pub Compiled : List ℕ → List ℕ → Result (List ℕ) Answer → Type 0
-Compiled name text (Ok object) = IsObjectOf text object
-Compiled name text (Err (answer.LimitForm which)) = IsNoUnit text × (which ≡ name)
-Compiled name text (Err answer.Memory) = Unit {0}
-Compiled name text (Err _) = ⊥
+Compiled name text (Ok object) = IsText text × IsObjectOf text object
+Compiled name text (Err (answer.LimitForm which)) = IsText text × IsNoUnit text × (which ≡ name)
+Compiled name text (Err told) = Parsed name text (Err told)
 
 abbrev pub Compiles : List ℕ → List ℕ → Step (List ℕ)
 Compiles name text old result new = Compiled name text result × (new ≡ old)
@@ -77,6 +105,17 @@ Keeps value old result new = ((result ≡ Ok value) ⊎ (result ≡ Err answer.M
 -- get UNIT, compile it, put its object
 abbrev pub CompilesTo : List ℕ → List ℕ → Step (List ℕ)
 CompilesTo unit name = AndThen (Fetches unit) (λ text. AndThen (Compiles unit text) (λ object. AndThen (Stores name object) (λ _. Keeps object)))
+
+-- a text is given to the output
+abbrev pub GivenOut : SinkSeen → List ℕ → Result (Unit {0}) Answer → SinkSeen → Type 0
+GivenOut old text (Ok _) new = new ≡ grown old text
+GivenOut old text (Err answer.WriteFault) new = CutShort SinkFailed old text new
+GivenOut old text (Err answer.Memory) new = CutShort SinkWanted old text new
+GivenOut old text (Err _) new = ⊥
+
+-- a step that reaches the output alone
+abbrev pub GivesOut : List ℕ → Step (Unit {0})
+GivesOut text old result new = GivenOut old.output text result new.output × (new ≡ record old { output = new.output })
 
 -- the file is that of the object
 pub record IsObjectFile (file : List ℕ) (object : Object) : Type 0 where

@@ -20,6 +20,8 @@ pub enum Status {
     ReadFault,
     /// A write failed.
     WriteFault,
+    /// A text is not a unit's text.
+    Syntax,
     /// A file or a text passes a limit.
     Limit,
     /// A file is no object.
@@ -52,6 +54,7 @@ impl Status {
             Status::Missing => 4,
             Status::ReadFault => 5,
             Status::WriteFault => 6,
+            Status::Syntax => 7,
             Status::Limit => 9,
             Status::Object => 10,
             Status::Doubled => 11,
@@ -65,6 +68,17 @@ impl Status {
     }
 }
 
+/// What is wrong with a text that is no unit's text.
+#[derive(Clone, Copy, Debug, PartialEq, Eq)]
+pub enum SyntaxKind {
+    /// No token begins at a place, or a comment that has no end.
+    Char,
+    /// A number, or a character or string literal is not as it must be.
+    Literal,
+    /// With a token the text begins no unit, or it ends too early.
+    Token,
+}
+
 /// All that a command has to tell: its status, and the names and numbers of its line.
 #[derive(Drop)]
 pub enum Answer {
@@ -76,6 +90,19 @@ pub enum Answer {
     WriteFault,
     /// The file of this name is longer than a file may be.
     LimitFile(Name),
+    /// The text of this name is longer than a text may be.
+    LimitText(Name),
+    /// In the text of this file too many brackets are open at this place, counted in bytes from 0, or too many tokens stand in a row.
+    LimitDeep {
+        file: Name,
+        at: u32,
+    },
+    /// The text of this file is no unit's text from this place on, counted in bytes from 0.
+    Syntax {
+        file: Name,
+        kind: SyntaxKind,
+        at: u32,
+    },
     /// The text of this name is not of the form that is compiled.
     LimitForm(Name),
     /// The file of this name is no object.
@@ -112,6 +139,8 @@ pub enum Answer {
     ObjectStored(u64),
     /// An image of so many bytes was stored.
     ImageStored(u64),
+    /// A text was shown.
+    Shown,
     /// The program has ended with this status.
     Ended(u8),
     Spent,
@@ -134,6 +163,9 @@ impl Answer {
             Answer::ReadFault => Status::ReadFault,
             Answer::WriteFault => Status::WriteFault,
             Answer::LimitFile(_) => Status::Limit,
+            Answer::LimitText(_) => Status::Limit,
+            Answer::LimitDeep { .. } => Status::Limit,
+            Answer::Syntax { .. } => Status::Syntax,
             Answer::LimitForm(_) => Status::Limit,
             Answer::ObjectForm(_) => Status::Object,
             Answer::Doubled { .. } => Status::Doubled,
@@ -145,6 +177,7 @@ impl Answer {
             Answer::ImageEntry(_) => Status::Image,
             Answer::ObjectStored(_) => Status::Done,
             Answer::ImageStored(_) => Status::Done,
+            Answer::Shown => Status::Done,
             Answer::Ended(_) => Status::Done,
             Answer::Spent => Status::Spent,
             Answer::Stuck { .. } => Status::Stuck,

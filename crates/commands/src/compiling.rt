@@ -4,18 +4,40 @@ ghost use Rattle.cc_base.specs.Seen.{SourceSeen, SinkSeen};
 ghost use Rattle.command_words.specs.Commands.{object_name};
 ghost use Rattle.command_words.specs.Orders.{texts};
 ghost use Rattle.commands.specs.Doing.{outside, Each};
-ghost use Rattle.commands.specs.Steps.{Compiled, CompilesTo};
+ghost use Rattle.commands.specs.Steps.{Parsed, Compiled, CompilesTo};
 
-use crate::answer::Answer;
+use crate::answer::{Answer, SyntaxKind};
 use crate::files::{Contents, fetch, keep, store};
 use cc_base::{Bytes, Files, Name};
+use clight_parser::parse;
+use clight_text::{SyntaxFault, Tree};
 use second_code::unit_object;
 use std::alloc::Global;
+
+// The tree of a text, which has this name. The name is copied first: after a refusal there may be no memory for it.
+pub(crate) fn parse_text(alloc: Global, name: &str, text: &[u8]) -> Result<Tree, Answer>
+    ensures { Parsed name.now text.now result }
+{
+    let Ok(file) = Name::from_slice(alloc, name.as_bytes()) else {
+        return Err(Answer::Memory);
+    };
+    let (kind, at) = match parse(alloc, text) {
+        Ok(tree) => return Ok(tree),
+        Err(SyntaxFault::Long) => return Err(Answer::LimitText(file)),
+        Err(SyntaxFault::Deep { at }) => return Err(Answer::LimitDeep { file, at }),
+        Err(SyntaxFault::Memory) => return Err(Answer::Memory),
+        Err(SyntaxFault::Char { at }) => (SyntaxKind::Char, at),
+        Err(SyntaxFault::Literal { at }) => (SyntaxKind::Literal, at),
+        Err(SyntaxFault::Token { at }) => (SyntaxKind::Token, at),
+    };
+    Err(Answer::Syntax { file, kind, at })
+}
 
 // The object of a text, which has this name. No other text has a part in it.
 fn compile(alloc: Global, name: &str, text: &[u8]) -> Result<Bytes, Answer>
     ensures { Compiled name.now text.now result }
 {
+    parse_text(alloc, name, text)?;
     let Ok(object) = unit_object(alloc, text) else {
         return Err(Answer::Memory);
     };

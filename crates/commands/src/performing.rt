@@ -11,6 +11,7 @@ use crate::compiling::{compile_all, compile_to};
 use crate::files::{fetch, fetch_all, store};
 use crate::linking::link_files;
 use crate::running::run_image;
+use crate::showing::show;
 use cc_base::{Files, Sink, Source};
 use command_words::Order;
 use std::alloc::Global;
@@ -110,6 +111,7 @@ pub fn perform<F: Files, S: Source, O: Sink>(
         Order::Compile { unit, object } => compile(alloc, unit, object, files),
         Order::Link { image, objects } => link(alloc, image, objects, files),
         Order::Run { steps, image } => run(alloc, *steps, image, files, input, output),
+        Order::Show { unit } => show(alloc, unit, files, output),
         Order::Exec {
             steps,
             image,

@@ -106,6 +106,113 @@ fn units_run(rt: HostRuntime) -> Result<(), Fail> {
     Ok(())
 }
 
+// Texts that are shown, and texts that are no unit's or pass a limit.
+#[test]
+fn texts_are_parsed(rt: HostRuntime) -> Result<(), Fail> {
+    let alloc = rt.alloc();
+    let rows: [(&[u8], &str, Status, &str, &[u8]); 9] = [
+        (
+            b"int main(){return 7;}",
+            "show t.c",
+            Status::Done,
+            "",
+            b"int main ( void ) { return 7 ; }\n",
+        ),
+        (b"", "show t.c", Status::Done, "", b"\n"),
+        (
+            b"int main(void) { return 1 + ; }",
+            "show t.c",
+            Status::Syntax,
+            "t.c: syntax token 28\n",
+            b"",
+        ),
+        (
+            b"int main(void) { return 1 + ; }",
+            "compile t.c t.o",
+            Status::Syntax,
+            "t.c: syntax token 28\n",
+            b"",
+        ),
+        (
+            b"int main(void) {",
+            "exec 9 out t.c",
+            Status::Syntax,
+            "t.c: syntax token 16\n",
+            b"",
+        ),
+        (
+            b"int x = 4294967296u;",
+            "compile t.c t.o",
+            Status::Syntax,
+            "t.c: syntax literal 8\n",
+            b"",
+        ),
+        (
+            b"int x = 1 @ 2;",
+            "compile t.c t.o",
+            Status::Syntax,
+            "t.c: syntax char 10\n",
+            b"",
+        ),
+        (
+            b"int x = 1;",
+            "compile t.c t.o",
+            Status::Limit,
+            "t.c: limit form\n",
+            b"",
+        ),
+        (b"int", "show u.c", Status::Missing, "missing u.c\n", b""),
+    ];
+    for (text, words, status, report, bytes) in rows {
+        let mut files = MemFiles::new(alloc, Calls::new(alloc));
+        files.put(alloc, "t.c", text)?;
+        let mut output = MemSink::new(alloc, Calls::new(alloc));
+        let answer = answer_of(alloc, words, &mut files, &mut output)?;
+        assert_eq!(rt; answer.status(), status, "{words}");
+        assert_eq!(rt;
+            line(alloc, &answer)?.as_slice(),
+            report.as_bytes(),
+            "{words}"
+        );
+        assert_eq!(rt; output.bytes(), bytes, "{words}");
+    }
+    Ok(())
+}
+
+// A text of so many pairs of parentheses, and one that is too long.
+#[test]
+fn limits_of_texts(rt: HostRuntime) -> Result<(), Fail> {
+    let alloc = rt.alloc();
+    let mut files = MemFiles::new(alloc, Calls::new(alloc));
+    let mut deep = Bytes::from_slice(alloc, b"int main(void) { return ")?;
+    for _ in 0..200 {
+        deep.push(b'(')?;
+    }
+    files.put(alloc, "deep.c", deep.as_slice())?;
+    let mut long = Bytes::new(alloc);
+    for _ in 0..1_048_577 {
+        long.push(b' ')?;
+    }
+    files.put(alloc, "long.c", long.as_slice())?;
+    let mut output = MemSink::new(alloc, Calls::new(alloc));
+    let rows = [
+        ("compile deep.c a.o", "deep.c: limit deep 223\n"),
+        ("show deep.c", "deep.c: limit deep 223\n"),
+        ("compile long.c a.o", "long.c: limit text\n"),
+        ("show long.c", "long.c: limit text\n"),
+    ];
+    for (words, report) in rows {
+        let answer = answer_of(alloc, words, &mut files, &mut output)?;
+        assert_eq!(rt; answer.status(), Status::Limit, "{words}");
+        assert_eq!(rt;
+            line(alloc, &answer)?.as_slice(),
+            report.as_bytes(),
+            "{words}"
+        );
+    }
+    Ok(())
+}
+
 // An image of this code at 0x08049000, with zeros behind it.
 fn image_of(alloc: Global, code: &[u8]) -> Result<ImageParts, AllocError>
     requires { length code.now ≤ 20 }

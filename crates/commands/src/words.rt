@@ -2,9 +2,9 @@
 ghost use Rattle.std.specs.Prelude.{◌≡◌, ◌≢◌, [], ◌++◌, codes, decimal, OnOk, OnErr, IfOk};
 ghost use Rattle.commands.specs.Answers.{status_of};
 ghost use Rattle.commands.specs.declared.answer.Status.{Status};
-ghost use Rattle.commands.specs.Lines.{shown, address, cause_words, words_of, ended, line_of};
+ghost use Rattle.commands.specs.Lines.{shown, address, cause_words, kind_words, words_of, ended, line_of};
 
-use crate::answer::Answer;
+use crate::answer::{Answer, SyntaxKind};
 use cc_base::{Text, hex_text, word_text};
 use i386_machine::Cause;
 use std::alloc::{AllocError, Global};
@@ -51,6 +51,17 @@ fn put_cause(line: &mut Text, cause: Cause) -> Result<(), AllocError>
     }
 }
 
+// Appends what is wrong with a text.
+fn put_kind(line: &mut Text, kind: SyntaxKind) -> Result<(), AllocError>
+    ensures { OnOk result (line.new ≡ line.old ++ kind_words kind) }
+{
+    match kind {
+        SyntaxKind::Char => line.extend(b"char"),
+        SyntaxKind::Literal => line.extend(b"literal"),
+        SyntaxKind::Token => line.extend(b"token"),
+    }
+}
+
 // Appends a name and the file of the object that it is told of.
 fn put_name(line: &mut Text, name: &[u8], file: &[u8]) -> Result<(), AllocError>
     ensures { OnOk result (line.new ≡ line.old ++ (shown name.now ++ codes " " ++ file.now)) }
@@ -89,6 +100,16 @@ fn put_words(line: &mut Text, answer: &Answer) -> Result<(), AllocError>
         Answer::ReadFault => line.extend(b"read"),
         Answer::WriteFault => Ok(()),
         Answer::LimitFile(name) => put_named(line, b"", name.as_slice(), b": limit file"),
+        Answer::LimitText(name) => put_named(line, b"", name.as_slice(), b": limit text"),
+        Answer::LimitDeep { file, at } => {
+            put_named(line, b"", file.as_slice(), b": limit deep ")?;
+            put_number(line, u64::from(*at))
+        }
+        Answer::Syntax { file, kind, at } => {
+            put_named(line, b"", file.as_slice(), b": syntax ")?;
+            put_kind(line, *kind)?;
+            put_count(line, b" ", u64::from(*at))
+        }
         Answer::LimitForm(name) => put_named(line, b"", name.as_slice(), b": limit form"),
         Answer::ObjectForm(name) => put_named(line, b"", name.as_slice(), b": object form"),
         Answer::Doubled { name, file } => {
@@ -122,6 +143,7 @@ fn put_words(line: &mut Text, answer: &Answer) -> Result<(), AllocError>
         Answer::ImageEntry(name) => put_named(line, b"", name.as_slice(), b": image entry"),
         Answer::ObjectStored(length) => put_count(line, b"object ", *length),
         Answer::ImageStored(length) => put_count(line, b"image ", *length),
+        Answer::Shown => Ok(()),
         Answer::Ended(code) => put_count(line, b"exit ", u64::from(*code)),
         Answer::Spent => line.extend(b"spent"),
         Answer::Stuck { eip, cause } => {
