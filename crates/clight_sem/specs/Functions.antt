@@ -19,7 +19,7 @@ use Rattle.clight_unit.specs.declared.signature.ValueBase.TheVariants as base
 use Rattle.clight_sem.specs.declared.meaning.Meaning.{Meaning}
 use Rattle.clight_sem.specs.declared.meaning.Meaning.TheVariants as meaning
 
--- Types. Structs are compared by their tags (S10 of the source's rules names no members)
+-- Types. Structs are compared by their tags alone, where C11, 6.2.7, looks at the members of structs of two units too
 
 abbrev pub same_base : ValueBase → ValueBase → Bool
 same_base base.Int base.Int = true
