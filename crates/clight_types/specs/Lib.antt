@@ -1,5 +1,6 @@
 pub mod Types
 pub mod Widths
+pub mod Laid
 pub mod Structs
 pub mod Sizes
 pub mod Same

@@ -1,11 +1,11 @@
 -- Sizes and alignments of types (System V ABI, i386 supplement).
-use Rattle.std.specs.Prelude.{ℕ, ◌*◌, zero, suc, ◌≡◌, ◌<◌, ◌≤◌, List, [], ◌∷◌, Option, Some, None}
+use Rattle.std.specs.Prelude.{ℕ, ◌*◌, zero, suc, ◌≡◌, ◌⊎◌, ◌<◌, ◌≤◌, true, List, [], ◌∷◌, Option, Some, None}
 use Rattle.std.specs.Option.{option_map}
-use Rattle.clight_types.specs.declared.layout.Layout.{Layout}
+use Rattle.clight_types.specs.Laid.{Laid}
 use Rattle.clight_types.specs.declared.layout.Size.{Size}
 use Rattle.clight_types.specs.declared.layout.Size.TheVariants as size
-use Rattle.clight_types.specs.Types.{Derived}
-use Rattle.clight_types.specs.Widths.{largest, IsOutside}
+use Rattle.clight_types.specs.Types.{Derived, is_empty_among}
+use Rattle.clight_types.specs.Widths.{largest}
 use Rattle.clight_types.specs.Structs.{base_size, base_align}
 
 -- a pointer has four bytes and stands at a multiple of four
@@ -26,15 +26,15 @@ times None m = None
 
 -- the size of a type in bytes, however great; none of `void`, of an array of unknown length, and of a struct whose
 -- definition has not ended
-abbrev pub size_of : List (Option Layout) → Derived → Option ℕ
+abbrev pub size_of : List (Option Laid) → Derived → Option ℕ
 size_of structs t = starred t.pointers (times (count_of t.lengths) (starred t.stars (base_size structs t.base)))
 
 -- an array stands where its elements do
-abbrev pub align_of : List (Option Layout) → Derived → Option ℕ
+abbrev pub align_of : List (Option Laid) → Derived → Option ℕ
 align_of structs t = starred t.pointers (starred t.stars (base_align structs t.base))
 
 -- a size as it is told: as a number, or that a part of it is past the greatest, and so is it, but where a length is 0
-abbrev pub IsSize : List (Option Layout) → Derived → Size → Type 0
+abbrev pub IsSize : List (Option Laid) → Derived → Size → Type 0
 IsSize structs t (size.Known n) = (size_of structs t ≡ Some n) × (n ≤ largest)
-IsSize structs t size.TooLarge = (n : ℕ) × (size_of structs t ≡ Some n) × IsOutside n
+IsSize structs t size.TooLarge = (n : ℕ) × (size_of structs t ≡ Some n) × ((largest < n) ⊎ (is_empty_among t.lengths ≡ true))
 IsSize structs t size.Unknown = size_of structs t ≡ None

@@ -1,5 +1,5 @@
 -- C's types, of the subset (C11, 6.2.5): integers of one and four bytes, void, structs, pointers and arrays.
-use Rattle.std.specs.Prelude.{ℕ, ◌+◌, ◌≤◌, zero, suc, ◌≡◌, ◌==◌, Bool, true, false, cond, List, [], ◌∷◌, map, Option, Some, None}
+use Rattle.std.specs.Prelude.{ℕ, ◌+◌, ◌≤◌, zero, suc, ◌≡◌, ◌==◌, ◌||◌, Bool, true, false, cond, List, [], ◌∷◌, map, Option, Some, None}
 use Rattle.clight_text.specs.declared.tree.Number.{Number}
 use Rattle.clight_types.specs.declared.class.Base.{Base}
 use Rattle.clight_types.specs.declared.class.Base.TheVariants as base
@@ -101,6 +101,20 @@ is_of_structs_at b stars pointers = false
 
 abbrev pub is_of_structs : Derived → Bool
 is_of_structs t = is_of_structs_at t.base t.stars t.pointers
+
+-- `void`, or an array of it: no object has such a type
+abbrev pub is_of_void_at : Base → ℕ → ℕ → Bool
+is_of_void_at base.Void zero zero = true
+is_of_void_at b stars pointers = false
+
+abbrev pub is_of_void : Derived → Bool
+is_of_void t = is_of_void_at t.base t.stars t.pointers
+
+-- whether a length is 0
+abbrev pub is_empty_among : List (Option ℕ) → Bool
+is_empty_among [] = false
+is_empty_among (None ∷ ls) = is_empty_among ls
+is_empty_among (Some n ∷ ls) = n == 0 || is_empty_among ls
 
 -- one pointer more cannot be counted
 abbrev pub IsDeep : Derived → Type 0

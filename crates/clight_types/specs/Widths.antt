@@ -1,5 +1,6 @@
 -- Widths of integers (System V ABI, i386 supplement), the greatest size, and products of lengths.
-use Rattle.std.specs.Prelude.{ℕ, ◌≡◌, ◌⊎◌, ◌*◌, ◌<◌, List, [], ◌∷◌}
+use Rattle.std.specs.Prelude.{ℕ, ◌≡◌, ◌⊎◌, ◌*◌, ◌<◌, ◌==◌, Bool, true, List, [], ◌∷◌}
+use Rattle.std.specs.List.{list_any}
 use Rattle.clight_text.specs.declared.tree.Number.{Number}
 use Rattle.clight_types.specs.declared.class.Integer.{Integer}
 use Rattle.clight_types.specs.declared.class.Integer.TheVariants as integer
@@ -20,6 +21,10 @@ abbrev pub scaled : ℕ → List Number → ℕ
 scaled size [] = size
 scaled size (n ∷ ns) = scaled (size * n.value) ns
 
--- past the greatest size, or nothing
-abbrev pub IsOutside : ℕ → Type 0
-IsOutside n = (n ≡ 0) ⊎ (largest < n)
+-- whether one of these lengths is 0
+abbrev pub has_zero : List Number → Bool
+has_zero ns = list_any (λ (n : Number). n.value == 0) ns
+
+-- a size times all these lengths is past the greatest size, or a length is 0
+abbrev pub IsPast : ℕ → List Number → Type 0
+IsPast size ns = (largest < scaled size ns) ⊎ (has_zero ns ≡ true)

@@ -1,6 +1,6 @@
 // A type, cheap to copy and to compare.
 ghost use Rattle.std.specs.Prelude.{◌≡◌, ◌<◌, ◌≤◌, IfSome, IfNone};
-ghost use Rattle.clight_types.specs.Types.{plain, declared, with_length, length_of, class_of, pointer_to, element_of, is_of_structs, IsDeep};
+ghost use Rattle.clight_types.specs.Types.{plain, declared, with_length, length_of, class_of, pointer_to, element_of, is_of_structs, is_of_void, is_empty_among, IsDeep};
 ghost use Rattle.clight_types.specs.Sizes.{IsSize, align_of};
 ghost use Rattle.clight_types.specs.Same.{same_type, agrees};
 
@@ -168,6 +168,27 @@ impl<'t> CType<'t> {
         match self.base {
             Base::Struct(_) => self.stars == 0 && self.pointers == 0,
             Base::Integer(_) | Base::Void => false,
+        }
+    }
+
+    /// Whether it is `void` or an array of it, so that no object may have this type.
+    pub fn is_of_void(&self) -> bool
+        ensures { result ≡ is_of_void self.now }
+    {
+        match self.base {
+            Base::Void => self.stars == 0 && self.pointers == 0,
+            Base::Integer(_) | Base::Struct(_) => false,
+        }
+    }
+
+    /// Whether one of its lengths is 0.
+    pub fn has_empty_length(&self) -> bool
+        ensures { result ≡ is_empty_among self.now.lengths }
+    {
+        match self.extent {
+            Extent::Absent => false,
+            Extent::Unknown => sizes::has_zero(self.rest),
+            Extent::Known(length) => length == 0 || sizes::has_zero(self.rest),
         }
     }
 

@@ -1,7 +1,7 @@
 // Sizes of bases and of arrays.
-ghost use Rattle.std.specs.Prelude.{◌≡◌, ◌≤◌, ◌<◌, ◌*◌, IfSome, IfNone};
+ghost use Rattle.std.specs.Prelude.{◌≡◌, ◌⊎◌, ◌≤◌, ◌<◌, ◌*◌, ◌==◌, ◌||◌, true, IfSome, IfNone};
 ghost use Rattle.std.specs.Option.{SomeIff};
-ghost use Rattle.clight_types.specs.Widths.{width_of, largest, scaled, IsOutside};
+ghost use Rattle.clight_types.specs.Widths.{width_of, largest, scaled, has_zero, IsPast};
 ghost use Rattle.clight_types.specs.Sizes.{starred};
 ghost use Rattle.clight_types.specs.Structs.{base_size, base_align, struct_of};
 
@@ -34,7 +34,7 @@ fn base_size(structs: &[Option<Layout>], base: Base) -> Option<u32>
     match base {
         Base::Integer(integer) => Some(width_of(integer)),
         Base::Void => None,
-        Base::Struct(tag) => Some(struct_of(structs, tag)?.size),
+        Base::Struct(tag) => Some(struct_of(structs, tag)?.size()),
     }
 }
 
@@ -58,8 +58,15 @@ pub(crate) fn base_align(structs: &[Option<Layout>], base: Base) -> Option<u32>
     match base {
         Base::Integer(integer) => Some(width_of(integer)),
         Base::Void => None,
-        Base::Struct(tag) => Some(struct_of(structs, tag)?.align),
+        Base::Struct(tag) => Some(struct_of(structs, tag)?.align()),
     }
+}
+
+/// Whether one of the lengths is 0.
+pub(crate) fn has_zero(lengths: &[Number]) -> bool
+    ensures { result ≡ has_zero lengths.now }
+{
+    lengths.iter().any(|length| length.value == 0)
 }
 
 // So many elements of a size, where they are no greater than the greatest object.
@@ -78,7 +85,7 @@ fn product(size: u32, count: u32) -> Option<u32>
 fn product_of_all(size: u32, lengths: &[Number]) -> Option<u32>
     requires { size ≤ largest }
     ensures some { IfSome result (λ n. (n ≡ scaled size lengths.now) × (n ≤ largest)) }
-    ensures none { IfNone result (IsOutside (scaled size lengths.now)) }
+    ensures none { IfNone result (IsPast size lengths.now) }
 {
     let mut total = size;
     for length in lengths {
@@ -91,7 +98,7 @@ fn product_of_all(size: u32, lengths: &[Number]) -> Option<u32>
 pub(crate) fn array_size(size: u32, count: u32, inner: &[Number]) -> Option<u32>
     requires { size ≤ largest }
     ensures some { IfSome result (λ n. (n ≡ scaled (size * count) inner.now) × (n ≤ largest)) }
-    ensures none { IfNone result (IsOutside (scaled (size * count) inner.now)) }
+    ensures none { IfNone result ((largest < scaled (size * count) inner.now) ⊎ ((count == 0 || has_zero inner.now) ≡ true)) }
 {
     product_of_all(product(size, count)?, inner)
 }

@@ -24,8 +24,8 @@ fn length(value: u32) -> Number {
 
 // `struct a { char a; int b; char c; }` has 12 bytes, and `struct b` is not defined.
 fn structs() -> Option<[Option<Layout>; 2]> {
-    let byte = Layout { size: 1, align: 1 };
-    let word = Layout { size: 4, align: 4 };
+    let byte = Layout::new(1, 1);
+    let word = Layout::new(4, 4);
     let members = Layout::empty().with(&byte)?.with(&word)?.with(&byte)?;
     Some([Some(members.ended()?), None])
 }
@@ -83,14 +83,14 @@ fn places(rt: &impl Abort, members: &[(Layout, u32)], whole: Layout) -> Option<(
 
 #[test]
 fn places_of_members(rt: HostRuntime) -> Result<(), Fail> {
-    let byte = Layout { size: 1, align: 1 };
-    let three = Layout { size: 3, align: 1 };
-    let five = Layout { size: 5, align: 1 };
-    let two = Layout { size: 2, align: 1 };
-    let word = Layout { size: 4, align: 4 };
-    let eight = Layout { size: 8, align: 4 };
-    let sixteen = Layout { size: 16, align: 4 };
-    let twelve = Layout { size: 12, align: 4 };
+    let byte = Layout::new(1, 1);
+    let three = Layout::new(3, 1);
+    let five = Layout::new(5, 1);
+    let two = Layout::new(2, 1);
+    let word = Layout::new(4, 4);
+    let eight = Layout::new(8, 4);
+    let sixteen = Layout::new(16, 4);
+    let twelve = Layout::new(12, 4);
     places(&rt, &[(byte, 0), (word, 4), (byte, 8)], twelve).ok_or("char int char")?;
     places(&rt, &[(byte, 0), (byte, 1)], two).ok_or("char char")?;
     places(&rt, &[(three, 0), (word, 4)], eight).ok_or("char[3] int")?;
@@ -99,19 +99,9 @@ fn places_of_members(rt: HostRuntime) -> Result<(), Fail> {
     places(&rt, &[(byte, 0), (word, 4), (five, 8)], sixteen).ok_or("char pointer char[5]")?;
     places(&rt, &[(twelve, 0), (byte, 12)], sixteen).ok_or("struct char")?;
     places(&rt, &[(five, 0)], five).ok_or("char[5]")?;
-    let most = Layout {
-        size: 8388608,
-        align: 4,
-    };
+    let most = Layout::new(8388608, 4);
     assert_eq!(rt; most.with(&byte), None);
-    assert_eq!(rt;
-        Layout {
-            size: 8388606,
-            align: 4
-        }
-        .ended(),
-        Some(most)
-    );
+    assert_eq!(rt; Layout::new(8388606, 4).ended(), Some(most));
     Ok(())
 }
 

@@ -1,11 +1,11 @@
 -- An array has its lengths' product of elements.
-use Rattle.std.proofs.Common.{◌≡◌, ◌<◌, ◌≤◌, ◌*◌, ℕ, arith, sym, ◌∙◌, ap, subst}
+use Rattle.std.proofs.Common.{◌≡◌, ◌⊎◌, true, ◌<◌, ◌≤◌, ◌*◌, ℕ, arith, sym, ◌∙◌, ap, subst}
 use Rattle.std.specs.Prelude.{Option, Some}
-use Rattle.clight_types.specs.Types.{Derived, lengths_of}
+use Rattle.clight_types.specs.Types.{Derived, lengths_of, is_empty_among}
 use Rattle.clight_types.specs.Sizes.{size_of}
 use Rattle.clight_types.specs.Structs.{base_size}
-use Rattle.clight_types.specs.Widths.{scaled}
-use Rattle.clight_types.proofs.Products.{known_size}
+use Rattle.clight_types.specs.Widths.{largest, scaled}
+use Rattle.clight_types.proofs.Products.{known_size, past_among}
 use Rattle.clight_types.proofs.ctype.CType.size.Goals as goal
 
 sized : (c : goal.In-Some-array_size) → size_of c.args.structs.now c.args.self.now ≡ Some (scaled (c.in-Some.size * c.in-Known.count) c.self.inside.rest.now)
@@ -19,7 +19,9 @@ returns-in-Some-array_size c = (sized c ∙ ap (λ n. Some n) (sym c.in-Some-arr
 
 pub returns-in-None : goal.returns-in-None
 returns-in-None c =
-    (let inside = c.self.inside in
-    let P : Derived → Type 0 = λ t. size_of c.args.structs.now t ≡ Some (scaled (c.in-Some.size * c.in-Known.count) inside.rest.now) in
+    let inside = c.self.inside in
+    let n = scaled (c.in-Some.size * c.in-Known.count) inside.rest.now in
+    let P : Derived → Type 0 = λ t. size_of c.args.structs.now t ≡ Some n in
+    let Q : Derived → Type 0 = λ t. (largest < n) ⊎ (is_empty_among t.lengths ≡ true) in
     let whole = subst P c.self.view_is (known_size c.args.structs.now inside.base inside.stars inside.pointers c.in-Known.count c.in-Some.size inside.extent inside.rest.now (omega arith) c.in-Known.is (sym c.in-Some.ensures.value)) in
-    (scaled (c.in-Some.size * c.in-Known.count) inside.rest.now, whole, c.in-None.ensures.none))
+    (n, whole, subst Q c.self.view_is (past_among inside.extent c.in-Known.count n inside.rest.now c.in-Known.is c.in-None.ensures.none))
