@@ -1,6 +1,7 @@
 -- What names mean at a place of a unit: a fact about what stands before it (C11, 6.2.1 and 6.2.3).
-use Rattle.std.specs.Prelude.{ℕ, List, [], slice_get, position, find, Option, unwrap_or}
-use Rattle.std.specs.Option.{option_map}
+use Rattle.std.specs.Prelude.{ℕ, Bool, false, List, [], slice_get, position, Option, unwrap_or}
+use Rattle.std.specs.Option.{option_map, option_or}
+use Rattle.std.specs.Map.{keys_of}
 use Rattle.std.specs.Str.{bytes_eq}
 use Rattle.clight_text.specs.declared.tree.BaseKind.{BaseKind}
 use Rattle.clight_text.specs.declared.tree.BaseKind.TheVariants as kind
@@ -8,26 +9,40 @@ use Rattle.clight_types.specs.declared.class.Integer.TheVariants as integer
 use Rattle.clight_types.specs.declared.class.Base.{Base}
 use Rattle.clight_types.specs.declared.class.Base.TheVariants as base
 use Rattle.clight_scopes.specs.declared.entity.Entity.{Entity}
-use Rattle.clight_scopes.specs.declared.entity.Named.{Named}
+use Rattle.clight_scopes.specs.declared.entity.Declared.{Declared}
 use Rattle.clight_scopes.specs.declared.entity.Member.{Member}
-use Rattle.clight_scopes.specs.declared.scope.Scope.{Scope}
+use Rattle.clight_scopes.specs.Tables.{found, found_at}
+use Rattle.clight_scopes.specs.Visible.{Visible}
 
--- names stand with the one that hides the others first
-abbrev pub entity_of : Scope → List ℕ → Option Entity
-entity_of scope name = option_map (λ (n : Named). n.entity) (find (λ (n : Named). bytes_eq n.name name) scope.names)
+-- what the file scope knows of a name by its declarations
+abbrev pub declared_of : Visible → List ℕ → Option Declared
+declared_of scope name = found scope.names name
+
+-- a function's own names hide those of file scope
+abbrev pub entity_of : Visible → List ℕ → Option Entity
+entity_of scope name =
+    option_or (found scope.own name) (option_or (option_map (λ (d : Declared). d.entity) (declared_of scope name)) (found scope.built_in name))
 
 -- the number of a tag: its place among all tags of the unit
-abbrev pub tag_of : Scope → List ℕ → ℕ
-tag_of scope name = unwrap_or (position (λ (t : List ℕ). bytes_eq t name) scope.tags) 0
+abbrev pub tag_of : Visible → List ℕ → ℕ
+tag_of scope name = unwrap_or (position (bytes_eq name) (keys_of scope.tags)) 0
 
-abbrev pub members_of : Scope → ℕ → List Member
+-- whether the definition of the struct of a tag has ended
+abbrev pub is_ended : Visible → List ℕ → Bool
+is_ended scope tag = unwrap_or (found scope.tags tag) false
+
+abbrev pub members_of : Visible → ℕ → List (List ℕ × Member)
 members_of scope tag = unwrap_or (slice_get scope.members tag) []
 
-abbrev pub member_of : Scope → ℕ → List ℕ → Option Member
-member_of scope tag name = find (λ (m : Member). bytes_eq m.name name) (members_of scope tag)
+abbrev pub member_of : Visible → ℕ → List ℕ → Option Member
+member_of scope tag name = found (members_of scope tag) name
+
+-- a member by its place among a struct's members
+abbrev pub member_at : Visible → ℕ → ℕ → Option Member
+member_at scope tag index = found_at (members_of scope tag) index
 
 -- what a base of the tree is
-abbrev pub base_of : Scope → BaseKind → Base
+abbrev pub base_of : Visible → BaseKind → Base
 base_of scope kind.Int = base.Integer integer.Int
 base_of scope kind.Char = base.Integer integer.Char
 base_of scope kind.UnsignedInt = base.Integer integer.UnsignedInt

@@ -25,17 +25,18 @@ pub enum Entity<'t> {
     Function(Prototype<'t>),
 }
 
-/// A name with what it means.
+/// What the declarations of a name at file scope say of it.
 #[derive(Drop)]
-pub struct Named<'t> {
-    pub name: Items<u8>,
+pub struct Declared<'t> {
     pub entity: Entity<'t>,
+    pub is_static: bool,
+    /// Whether one of them is a definition.
+    pub is_defined: bool,
 }
 
 /// A member of a struct.
 #[derive(Drop)]
 pub struct Member<'t> {
-    pub name: Items<u8>,
     pub ctype: CType<'t>,
     /// Where it begins in the struct, in bytes.
     pub offset: u32,

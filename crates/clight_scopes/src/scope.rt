@@ -1,56 +1,83 @@
 // What names mean at a place.
-ghost use Rattle.std.specs.Prelude.{◌≡◌, ◌<◌, ◌^◌, ℕ, List, IfSome, length, position, option_copied};
-ghost use Rattle.std.specs.Str.{bytes_eq};
+ghost use Rattle.std.specs.Prelude.{◌≡◌, option_copied, is_some};
+ghost use Rattle.clight_scopes.specs.Tables.{found};
+ghost use Rattle.clight_scopes.specs.Names.{entity_of, declared_of, tag_of, is_ended, member_of, member_at, base_of};
 
-use crate::entity::{Entity, Member, Named};
+use crate::entity::{Declared, Entity, Member};
+use crate::table::Table;
 use clight_text::BaseKind;
 use clight_types::{Base, Integer, Layout};
 use sqlite_items::Items;
+use std::marker::Model;
 
-/// What names mean at a place, and what is known of structs there.
+/// What names mean at a place, and what is known of structs there. Contracts see `Visible` of `specs/Visible.antt`.
 #[derive(Drop)]
 pub struct Scope<'t> {
-    /// The names, where one that hides another stands before it.
-    pub names: Items<Named<'t>>,
-    /// All tags of the unit. A struct goes by the number of its tag.
-    pub tags: Items<Items<u8>>,
-    /// The layouts of structs; none where the definition has not ended.
-    pub layouts: Items<Option<Layout>>,
-    /// The members of structs.
-    pub members: Items<Items<Member<'t>>>,
-    ghost few: { length tags < 2 ^ 32 },
+    pub(crate) own: Table<'t, Entity<'t>>,
+    pub(crate) names: Table<'t, Declared<'t>>,
+    pub(crate) built_in: Table<'t, Entity<'t>>,
+    // The tags, and whether the definitions of their structs have ended.
+    pub(crate) tags: Table<'t, bool>,
+    pub(crate) layouts: Items<Option<Layout>>,
+    pub(crate) members: Items<Table<'t, Member<'t>>>,
 }
 
-// The place of the first tag of this name.
-fn place_of(tags: &[Items<u8>], name: &[u8]) -> Option<usize>
-    ensures place { result ≡ position (λ (t : List ℕ). bytes_eq t name.now) tags.now }
-    ensures within { IfSome result (λ i. i < length tags.now) }
-{
-    tags.iter().position(|tag| tag.as_slice() == name)
+impl<'t> Model for Scope<'t> {
+    ghost use Rattle.std.specs.Prelude.{◌<◌, ◌≤◌, ◌^◌, length};
+    ghost use Rattle.clight_scopes.specs.Visible.{Visible};
+
+    ghost Value = { Visible };
+
+    ghost view = { λ s. record { own = s.own; names = s.names; built_in = s.built_in; tags = s.tags; layouts = s.layouts; members = s.members } };
+
+    ghost invariant = { λ s. (length s.tags < 2 ^ 32) × ((length s.tags ≤ length s.layouts) × (length s.tags ≤ length s.members)) };
 }
 
 impl<'t> Scope<'t> {
-    ghost use Rattle.clight_scopes.specs.Names.{entity_of, tag_of, member_of, base_of};
-
     /// What a name means, if it means anything.
     pub fn entity(&self, name: &[u8]) -> Option<&Entity<'t>>
         ensures { option_copied result ≡ entity_of self.now name.now }
     {
-        let named = self
-            .names
-            .as_slice()
-            .iter()
-            .find(|named| named.name.as_slice() == name)?;
-        Some(&named.entity)
+        if let Some(entity) = self.own.get(name) {
+            return Some(entity);
+        }
+        if let Some(declared) = self.names.get(name) {
+            return Some(&declared.entity);
+        }
+        self.built_in.get(name)
+    }
+
+    /// What the declarations of a name at file scope say of it, if it has one.
+    pub fn declared(&self, name: &[u8]) -> Option<&Declared<'t>>
+        ensures { option_copied result ≡ declared_of self.now name.now }
+    {
+        self.names.get(name)
+    }
+
+    /// Whether a parameter or local of the current function has this name.
+    pub fn is_own(&self, name: &[u8]) -> bool
+        ensures { result ≡ is_some (found self.now.own name.now) }
+    {
+        self.own.has(name)
     }
 
     /// The number of a tag; 0 where it is none of the unit's.
     pub fn tag(&self, name: &[u8]) -> u32
         ensures { result ≡ tag_of self.now name.now }
     {
-        match place_of(self.tags.as_slice(), name) {
+        match self.tags.place(name) {
             Some(number) => number as u32,
             None => 0,
+        }
+    }
+
+    /// Whether the definition of the struct of this tag has ended.
+    pub fn is_ended(&self, tag: &[u8]) -> bool
+        ensures { result ≡ is_ended self.now tag.now }
+    {
+        match self.tags.get(tag) {
+            Some(ended) => *ended,
+            None => false,
         }
     }
 
@@ -80,9 +107,14 @@ impl<'t> Scope<'t> {
         ensures { option_copied result ≡ member_of self.now tag name.now }
     {
         let members = self.members.get(tag as usize)?;
-        members
-            .as_slice()
-            .iter()
-            .find(|member| member.name.as_slice() == name)
+        members.get(name)
+    }
+
+    /// A struct's member at this place among its members, counted from 0.
+    pub fn member_at(&self, tag: u32, index: usize) -> Option<&Member<'t>>
+        ensures { option_copied result ≡ member_at self.now tag index }
+    {
+        let members = self.members.get(tag as usize)?;
+        members.at(index)
     }
 }
