@@ -7,8 +7,6 @@ mod entity;
 mod growth;
 mod scope;
 mod table;
-#[cfg(test)]
-mod tests;
 
 pub use entity::{Declared, Entity, Member, Prototype};
 pub use scope::Scope;
