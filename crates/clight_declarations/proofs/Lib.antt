@@ -1,0 +1,3 @@
+pub mod TypeLists
+pub mod MemberLists
+pub mod FunctionHeads
