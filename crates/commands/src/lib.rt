@@ -11,8 +11,6 @@ mod linking;
 mod performing;
 mod running;
 mod showing;
-#[cfg(test)]
-mod tests;
 mod words;
 
 pub use answer::{Answer, Status, SyntaxKind};

@@ -3,7 +3,7 @@ use Rattle.std.specs.Prelude.{IfSome}
 use Rattle.command_words.specs.declared.words.Order.{Order}
 use Rattle.command_words.specs.Commands.{Fits}
 use Rattle.command_words.specs.Orders.{texts, request_of}
-use Rattle.commands.proofs.tests.answer_of.Goals as goal
+use Rattle.commands_tests.proofs.performing.answer_of.Goals as goal
 
 pub perform-requires-clause-fits : goal.perform-requires-clause-fits
 perform-requires-clause-fits c =

@@ -2,9 +2,9 @@
 ghost use Rattle.std.specs.Prelude.{◌^◌, ◌<◌, ◌≤◌, length, IfOk};
 ghost use Rattle.elf_file.specs.Image.{WellFormedImage};
 
-use crate::{Answer, Status, line, perform};
 use cc_base::{Bytes, Calls, Files, MemFiles, MemSink, MemSource};
 use command_words::read;
+use commands::{Answer, Status, line, perform};
 use elf_file::{ImageParts, SegmentPart, SegmentParts, write_image};
 use std::alloc::{AllocError, Global};
 use std::test::Fail;
