@@ -1,0 +1,4 @@
+pub mod Gathering
+pub mod Calls
+pub mod Assignments
+pub mod Statements
