@@ -1,0 +1,3 @@
+mod FunctionParts
+mod LocalLists
+mod Unbroken
