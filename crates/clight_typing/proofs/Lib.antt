@@ -1,0 +1,3 @@
+mod ItemParts
+mod Unbroken
+mod Walked

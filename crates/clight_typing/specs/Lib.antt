@@ -1,0 +1,4 @@
+pub mod Objects
+pub mod Walk
+pub mod Faces
+pub mod Typing
