@@ -249,6 +249,30 @@ fn more_parameters_than_32(rt: HostRuntime) -> Result<(), AllocError> {
     Ok(())
 }
 
+// An object with so many items.
+fn with_items(alloc: Global, items: u32) -> Result<Vec<u8>, AllocError> {
+    let mut text = Vec::new(alloc);
+    text.extend_from_slice(b"int a[65536] = {0")?;
+    for _ in 1..items {
+        text.extend_from_slice(b",0")?;
+    }
+    text.extend_from_slice(b"};")?;
+    Ok(text)
+}
+
+// One node for the object, and one for each item.
+#[test]
+fn more_nodes_than_65536(rt: HostRuntime) -> Result<(), AllocError> {
+    let most = with_items(rt.alloc(), 65_535)?;
+    assert_eq!(rt; told(rt.alloc(), most.as_slice())?, None);
+    let past = with_items(rt.alloc(), 65_536)?;
+    assert_eq!(rt;
+        told(rt.alloc(), past.as_slice())?,
+        Some((TypeKind::Nodes, 4))
+    );
+    Ok(())
+}
+
 #[test]
 fn texts_that_break_no_rule(rt: HostRuntime) -> Result<(), AllocError> {
     let table: [&[u8]; 30] = [
