@@ -9,11 +9,11 @@ trap 'rm -rf "$folder"' EXIT
 program=$folder/crates/link_bench
 
 mkdir -p "$program/src" "$program/proofs/linked"
-for crate in cc_base pass_core clight_syntax i386_machine machine_steps elf_file elf_linker image_loader second_code; do
+for crate in cc_base pass_core clight_text clight_parser second_form i386_machine machine_steps elf_file elf_linker image_loader second_code; do
     (cd "$top" && tar cf - --exclude=out "crates/$crate") | (cd "$folder" && tar xf -)
     grep "^$crate:" "$top/crates.txt" >> "$folder/crates.txt"
 done
-echo 'link_bench: elf_file elf_linker second_code anyhow' >> "$folder/crates.txt"
+echo 'link_bench: clight_parser elf_file elf_linker second_code anyhow' >> "$folder/crates.txt"
 
 cat > "$program/src/main.rt" <<'EOF'
 // Makes the objects of units that call each other in a chain, or links them. The arguments are what is done, how many
@@ -24,6 +24,7 @@ ghost use Rattle.std.specs.Prelude.{IfOk};
 ghost use Rattle.elf_file.specs.Image.{WellFormedImage};
 
 use anyhow::{Result, anyhow};
+use clight_parser::parse;
 use elf_file::{ImageParts, read_object, write_image, write_object};
 use elf_linker::{Inputs, link, runtime_parts};
 use second_code::unit_object;
@@ -57,7 +58,8 @@ fn make(rt: &HostRuntime, count: u32, statements: u32) -> Result<()> {
     let alloc = rt.alloc();
     for number in 0..count {
         let text = unit(alloc, number, count.saturating_sub(1), statements)?;
-        let file = unit_object(alloc, text.as_str().as_bytes())?.ok_or(anyhow!("no unit"))?;
+        let tree = parse(alloc, text.as_str().as_bytes()).map_err(|_| anyhow!("no text"))?;
+        let file = unit_object(alloc, &tree)?.ok_or(anyhow!("no unit"))?;
         fs::write(rt, format!(in alloc; "u{number}.o")?.as_str(), file.as_slice())?;
     }
     let runtime = write_object(alloc, &runtime_parts(alloc)?)?;

@@ -208,15 +208,15 @@ echo 'int f4096(void); int main(void) { f4096(); return 5; }' >many/main.c
 gives '4,096 units' 0 'exit 5' ./ccelf exec 1000 build/many many/*.c
 echo 'int f1(void) { return 0; }' >many/1.c
 gives '4,097 units' 2 words ./ccelf exec 1000 build/many many/*.c
-{ echo 'int main(void) { return 0; }'; head -c 65507 /dev/zero | tr '\0' ' '; } >wide.c
-gives 'a unit of 65,536 bytes' 0 'exit 0' ./ccelf exec 1000 build/wide wide.c
+{ echo 'int main(void) { return 0; }'; head -c 1048547 /dev/zero | tr '\0' ' '; } >wide.c
+gives 'a unit of 1,048,576 bytes' 0 'exit 0' ./ccelf exec 1000 build/wide wide.c
 printf ' ' >>wide.c
-gives 'a unit of 65,537 bytes' 9 'wide.c: limit form' ./ccelf exec 1000 build/wide wide.c
+gives 'a unit of 1,048,577 bytes' 9 'wide.c: limit text' ./ccelf exec 1000 build/wide wide.c
 head -c 134217729 /dev/zero >long.c
 head -c 1048577 /dev/zero | tr '\0' ' ' >text.c
 gives 'a text of 1,048,577 bytes' 9 'text.c: limit text' ./ccelf exec 1000 build/text text.c
 head -c 1048576 /dev/zero | tr '\0' ' ' >text.c
-gives 'a text of 1,048,576 bytes' 9 'text.c: limit form' ./ccelf exec 1000 build/text text.c
+gives 'a text of 1,048,576 bytes' 12 'unresolved main runtime' ./ccelf exec 1000 build/text text.c
 gives 'a file of 134,217,729 bytes' 9 'long.c: limit file' ./ccelf exec 1000 build/long long.c
 rm long.c
 

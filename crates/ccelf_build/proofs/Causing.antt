@@ -1,5 +1,5 @@
 -- A status that tells of a count comes only where it rose.
-use Rattle.std.proofs.Common.{◌≡◌, ◌⊎◌, ◌≤◌, ℕ, refl, inl, inr, sym, ap, ◌∙◌, subst}
+use Rattle.std.proofs.Common.{◌≡◌, ◌⊎◌, ◌≤◌, ℕ, inl, inr, sym, ap, ◌∙◌, subst}
 use Rattle.cc_base.specs.Seen.{SinkSeen, Rose}
 use Rattle.commands.specs.declared.answer.Answer.{Answer}
 use Rattle.commands.specs.declared.answer.Answer.TheVariants as answer

@@ -1,5 +1,5 @@
 -- The chain of a unit's steps, and steps that are taken for each of a list.
-use Rattle.std.proofs.Common.{◌≡◌, ◌∷◌, [], ℕ, List, Result, Ok, Err, inl, inr}
+use Rattle.std.proofs.Common.{◌≡◌, ◌∷◌, ℕ, List, Result, Ok, Err, inl, inr}
 use Rattle.commands.specs.declared.answer.Answer.{Answer}
 use Rattle.commands.specs.Doing.{Outside, Step, AndThen, Each, Has}
 use Rattle.commands.specs.Steps.{Stores, Compiles, Keeps}

@@ -1,5 +1,5 @@
 -- What compile comes to, where the files tell their bytes.
-use Rattle.std.proofs.Common.{◌≡◌, ◌⊎◌, ◌∷◌, [], ℕ, List, length, Some, inl, inr, ap, ◌∙◌, sym, subst}
+use Rattle.std.proofs.Common.{◌∷◌, [], ℕ, List, length, inl, inr, ap, sym, subst}
 use Rattle.commands.specs.declared.answer.Answer.{Answer}
 use Rattle.commands.specs.declared.answer.Answer.TheVariants as answer
 use Rattle.commands.specs.Doing.{Outside}
@@ -15,6 +15,8 @@ module _ (unit object : List ℕ) (files : Contents) (old : Outside) (there : Te
   from_unit new (answer.LimitText which) h = h
   from_unit new (answer.LimitDeep which at) h = h
   from_unit new (answer.Syntax which kind at) h = h
+  from_unit new (answer.Typing which broken at) h = h
+  from_unit new (answer.LimitUnit which limit at) h = h
   from_unit new (answer.LimitForm which) h = h
   from_unit new answer.ReadFault h = h
   from_unit new answer.WriteFault h = h

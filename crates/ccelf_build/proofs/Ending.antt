@@ -1,9 +1,8 @@
 -- What the end of a command leaves of its status and its output.
-use Rattle.std.proofs.Common.{◌≡◌, ◌⊎◌, inl, inr, refl, sym, ◌∙◌, subst}
+use Rattle.std.proofs.Common.{◌≡◌, ◌⊎◌, inl, inr}
 use Rattle.cc_base.specs.Seen.{SinkSeen}
 use Rattle.commands.specs.declared.answer.Answer.{Answer}
 use Rattle.commands.specs.declared.answer.Status.{Status}
-use Rattle.commands.specs.declared.answer.Status.TheVariants as status
 use Rattle.commands.specs.Answers.{status_of}
 use Rattle.ccelf_build.specs.Ends.{Ends, all_told, not_flushed, no_line, cut_short, no_room}
 use Rattle.ccelf_build.specs.Kept.{OnlyFlushed}

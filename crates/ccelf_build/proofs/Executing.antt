@@ -1,5 +1,5 @@
 -- What exec comes to, where the files and the input tell their bytes.
-use Rattle.std.proofs.Common.{◌≡◌, ◌⊎◌, ◌∷◌, ◌++◌, [], ℕ, List, Some, None, map, Result, Ok, Err, refl, inl, inr, ap, ◌∙◌, sym, subst, append-nil}
+use Rattle.std.proofs.Common.{◌≡◌, ◌∷◌, ◌++◌, [], ℕ, List, Some, None, map, Result, Ok, Err, inl, inr, ap, ◌∙◌, sym, subst, append-nil}
 use Rattle.cc_base.specs.Seen.{FilesSeen, SourceSeen, SinkSeen}
 use Rattle.cc_base.specs.Outside.{grown}
 use Rattle.cc_base.specs.Runs.{emitted}
@@ -12,15 +12,15 @@ use Rattle.second_code.specs.LinkedObjects.{linked_objects}
 use Rattle.command_words.specs.Commands.{AreNames, object_name}
 use Rattle.commands.specs.declared.answer.Answer.{Answer}
 use Rattle.commands.specs.declared.answer.Answer.TheVariants as answer
-use Rattle.commands.specs.Doing.{Outside, Then, Each}
-use Rattle.commands.specs.Steps.{Stores, Links, LinkedFrom, Runs, RunsBy}
+use Rattle.commands.specs.Doing.{Outside, Then}
+use Rattle.commands.specs.Steps.{Stores, Links, LinkedFrom, Runs}
 use Rattle.commands.specs.Does.{exec_does}
-use Rattle.ccelf_build.specs.Contents.{Contents, AreAll, NamedBytes, put_all, DidPut}
+use Rattle.ccelf_build.specs.Contents.{Contents, AreAll, put_all, DidPut}
 use Rattle.ccelf_build.specs.Laws.{Laws}
-use Rattle.ccelf_build.specs.Told.{Compiled, IsCompiled, RanFor, Comes, objects_of, items_of, SomePut, IsBuilt, built_puts, exec_told}
+use Rattle.ccelf_build.specs.Told.{Compiled, IsCompiled, RanFor, Comes, objects_of, items_of, SomePut, IsBuilt, exec_told}
 use Rattle.ccelf_build.proofs.Names.{units_apart}
 use Rattle.ccelf_build.proofs.Units.{Tells, put_more, put_one}
-use Rattle.ccelf_build.proofs.UnitLists.{files_of, compiles, same_first, PutFirst, UnitsRow, UnitsDone, units_row, units_done, made_all}
+use Rattle.ccelf_build.proofs.UnitLists.{files_of, same_first, PutFirst, UnitsRow, units_row, units_done, made_all}
 use Rattle.ccelf_build.proofs.Objects.{are_units, units_linked, UnitsLinked, runs_loaded}
 use Rattle.ccelf_build.proofs.Running.{comes_so}
 use Rattle.ccelf_build.proofs.Untouching.{run_still}
@@ -48,6 +48,8 @@ module _ (laws : Laws) (steps : ℕ) (image : List ℕ) (units : List (List ℕ)
   from_units new (answer.LimitText which) h = h
   from_units new (answer.LimitDeep which at) h = h
   from_units new (answer.Syntax which kind at) h = h
+  from_units new (answer.Typing which broken at) h = h
+  from_units new (answer.LimitUnit which limit at) h = h
   from_units new (answer.LimitForm which) h = h
   from_units new answer.ReadFault h = inl (some_put new h)
   from_units new answer.WriteFault h = inl (some_put new h)

@@ -1,5 +1,5 @@
 -- What a command leaves in the files.
-use Rattle.std.proofs.Common.{◌≡◌, ◌∷◌, ◌++◌, [], ℕ, List, Option, Some, None, option_map, map, Result, Ok, Err, refl, inl, inr, ap, ◌∙◌, sym, subst, append_assoc, append-nil}
+use Rattle.std.proofs.Common.{◌≡◌, ◌∷◌, ◌++◌, [], ℕ, List, Option, Some, None, option_map, map, Ok, Err, refl, inl, inr, ap, ◌∙◌, sym, subst, append_assoc, append-nil}
 use Rattle.std.specs.FinMap.{insert}
 use Rattle.std.proofs.lemmas.List.{map-append}
 use Rattle.cc_base.specs.Seen.{FilesSeen}

@@ -17,6 +17,7 @@ pub mod Running
 pub mod Showing
 pub mod Statuses
 pub mod Reasons
+pub mod OneForm
 pub mod OneReason
 pub mod Causing
 pub mod Promising

@@ -1,11 +1,10 @@
 -- What link comes to, where the files tell their bytes.
-use Rattle.std.proofs.Common.{◌≡◌, ◌⊎◌, ◌∷◌, [], ℕ, List, map, length, Some, None, Result, Ok, Err, inl, inr, refl, ap, ◌∙◌, sym, subst}
+use Rattle.std.proofs.Common.{◌≡◌, ◌∷◌, [], ℕ, List, map, length, None, Result, Ok, Err, inl, inr, refl, ap, ◌∙◌, sym, subst}
 use Rattle.cc_base.specs.Seen.{FilesSeen}
-use Rattle.clight_syntax.specs.declared.second_items.Item.{Item}
-use Rattle.clight_syntax.specs.SecondRun.{second_after}
+use Rattle.second_form.specs.declared.second_items.Item.{Item}
+use Rattle.second_form.specs.SecondRun.{second_after}
 use Rattle.pass_core.specs.Refines.{Refines}
 use Rattle.elf_file.specs.Object.{Object}
-use Rattle.elf_file.specs.declared.image.ImageParts.{ImageParts}
 use Rattle.elf_linker.specs.Linked.{Linked}
 use Rattle.elf_linker.specs.Names.{link_fault}
 use Rattle.elf_linker.specs.Runtime.{with_runtime}
@@ -13,12 +12,12 @@ use Rattle.image_loader.specs.Load.{image_after}
 use Rattle.second_code.specs.LinkedObjects.{unit_object}
 use Rattle.commands.specs.declared.answer.Answer.{Answer}
 use Rattle.commands.specs.declared.answer.Answer.TheVariants as answer
-use Rattle.commands.specs.Doing.{Outside, AndThen, Then, Each, Says}
-use Rattle.commands.specs.Steps.{Fetches, Stores, Links, LinkedFrom, LinkedBy, AreObjectFiles, IsLinkedImage, IsFirstNoObject}
+use Rattle.commands.specs.Doing.{Outside, Then, Each, Says}
+use Rattle.commands.specs.Steps.{Fetches, Stores, Links, AreObjectFiles, IsLinkedImage}
 use Rattle.commands.specs.Does.{link_does}
 use Rattle.ccelf_build.specs.Contents.{Contents, StandsAt, IsAbsent, IsLong, AreAll, FirstStop, DidPut}
 use Rattle.ccelf_build.specs.Laws.{Laws}
-use Rattle.ccelf_build.specs.Told.{AreMade, AreObjectsAt, ImageLinked, link_told}
+use Rattle.ccelf_build.specs.Told.{AreMade, AreObjectsAt, link_told}
 use Rattle.ccelf_build.proofs.Chains.{rest_failed}
 use Rattle.ccelf_build.proofs.Listing.{stop_here, stop_later}
 use Rattle.ccelf_build.proofs.Units.{Tells, FetchRow, fetch_row, fetch_same, fetch_stands, none_put, nothing_done, put_one}

@@ -1,6 +1,5 @@
 -- Names that are one of some things, in their order, and the first that stops.
-use Rattle.std.proofs.Common.{◌≡◌, ◌∷◌, ◌++◌, [], ℕ, List, refl, sym, ap, ◌∙◌, subst, get_or}
-use Rattle.std.specs.Prelude.{length}
+use Rattle.std.proofs.Common.{◌≡◌, ◌∷◌, ◌++◌, [], ℕ, List, refl, sym, ap, ◌∙◌, subst}
 use Rattle.ccelf_build.specs.Contents.{AreAll, FirstStop}
 
 -- a name is one of those things only

@@ -1,5 +1,5 @@
 -- Names of files: what a put leaves of the others, and that the objects of units are none of the units.
-use Rattle.std.proofs.Common.{◌≡◌, ◌≢◌, ◌<◌, ◌∷◌, ◌++◌, [], ℕ, zero, suc, ◌+◌, List, Option, Some, map, length, get_or, Bool, true, false, refl, ap, ◌∙◌, sym, arith, length-append}
+use Rattle.std.proofs.Common.{◌≡◌, ◌≢◌, ◌<◌, ◌∷◌, ◌++◌, [], ℕ, suc, ◌+◌, List, Some, map, length, get_or, Bool, true, false, refl, ap, ◌∙◌, sym, arith, length-append}
 use Rattle.std.specs.Prelude.{cond}
 use Rattle.std.specs.FinMap.{get, insert, get-insert}
 use Rattle.std.specs.Str.{bytes_eq}

@@ -1,20 +1,18 @@
 -- Files that are objects of units, what linking them comes to, and the image that is run.
-use Rattle.std.proofs.Common.{◌≡◌, ◌⊎◌, ◌<◌, ◌∷◌, ◌++◌, [], ℕ, zero, suc, List, Option, Some, None, map, length, Result, Ok, Err, Bool, true, false, refl, inl, inr, ap, ◌∙◌, sym, subst, arith}
+use Rattle.std.proofs.Common.{◌≡◌, ◌⊎◌, ◌<◌, ◌∷◌, [], ℕ, List, Option, Some, None, map, Result, Ok, Err, Bool, true, false, refl, inl, inr, ap, ◌∙◌, sym, subst, arith}
 use Rattle.std.specs.Prelude.{All, cond, nat_lt}
 use Rattle.std.proofs.lemmas.List.Elements.{All-cons}
 use Rattle.std.proofs.lemmas.Option.{same_Some, none-some}
-use Rattle.clight_syntax.specs.declared.second_items.Item.{Item}
-use Rattle.clight_syntax.specs.SecondFaults.{source_fault, SourceFault}
-use Rattle.clight_syntax.specs.SecondFaults as source
+use Rattle.second_form.specs.declared.second_items.Item.{Item}
+use Rattle.second_form.specs.SecondFaults.{source_fault, SourceFault}
+use Rattle.second_form.specs.SecondFaults as source
 use Rattle.elf_file.specs.Object.{Object, object_of}
 use Rattle.elf_file.specs.Read.{IsFileOf}
 use Rattle.elf_file.specs.Image.{IsImageOf}
-use Rattle.elf_file.specs.declared.parts.ObjectParts.{ObjectParts}
 use Rattle.elf_file.specs.declared.image.ImageParts.{ImageParts}
-use Rattle.elf_linker.specs.Linked.{Linked, object_at}
+use Rattle.elf_linker.specs.Linked.{Linked}
 use Rattle.elf_linker.specs.Names.{link_fault, too_long}
 use Rattle.elf_linker.specs.Placement.{last_end, whole_end}
-use Rattle.elf_linker.specs.Runtime.{with_runtime}
 use Rattle.elf_linker.specs.declared.fault.LinkFault.{LinkFault}
 use Rattle.elf_linker.specs.declared.fault.LinkFault.TheVariants as linking
 use Rattle.image_loader.specs.Load.{load_fault}
@@ -25,9 +23,9 @@ use Rattle.second_code.specs.FoundFaults.{IsFoundAs}
 use Rattle.commands.specs.declared.answer.Answer.{Answer}
 use Rattle.commands.specs.declared.answer.Answer.TheVariants as answer
 use Rattle.commands.specs.Doing.{Outside}
-use Rattle.commands.specs.Steps.{IsObjectFile, IsNoObject, AreObjectFiles, IsFirstNoObject, this, later, LinkedFrom, LinkedBy, file_name, symbol_name, IsLinkedImage, Runs, RunsBy}
+use Rattle.commands.specs.Steps.{IsObjectFile, AreObjectFiles, IsFirstNoObject, this, later, LinkedFrom, LinkedBy, file_name, symbol_name, Runs, RunsBy}
 use Rattle.ccelf_build.specs.Laws.{Laws}
-use Rattle.ccelf_build.specs.Told.{Compiled, IsMade, AreMade}
+use Rattle.ccelf_build.specs.Told.{AreMade}
 use Rattle.ccelf_build.proofs.Runnings.{runs_by}
 
 -- objects of units are units
@@ -37,7 +35,7 @@ are_units [] files h = λ k d l. absurd (no_place k l)
     no_place : (k : ℕ) → k < 0 → ⊥
     no_place k l = omega arith
 are_units (items ∷ units) [] h = absurd h
-are_units (items ∷ units) (file ∷ files) h = All-cons IsUnit items units (record { text = h.0.text; form = h.0.form }) (are_units units files h.1)
+are_units (items ∷ units) (file ∷ files) h = All-cons IsUnit items units (record { tree = h.0.form.tree; form = h.0.form.form }) (are_units units files h.1)
 
 -- a file is one object
 object_is : Laws → (items : List Item) (file : List ℕ) (object : Object) → IsFileOf (parts_of items) file → IsObjectFile file object → object ≡ unit_object items

@@ -1,18 +1,16 @@
 -- A status has its reason only where no other status has one.
-use Rattle.std.proofs.Common.{◌≡◌, ◌⊎◌, ◌<◌, ◌≤◌, ◌∷◌, [], ℕ, List, Option, Some, None, Result, Ok, Err, length, refl, inl, inr, ap, ◌∙◌, sym, subst, arith}
+use Rattle.std.proofs.Common.{◌≡◌, ◌⊎◌, ◌∷◌, [], ℕ, List, Option, Some, None, Result, Ok, Err, length, refl, inl, inr, ap, ◌∙◌, sym, subst, arith}
 use Rattle.std.specs.FinMap.{get}
 use Rattle.std.proofs.lemmas.Option.{same_Some, none-some}
-use Rattle.cc_base.specs.Outside.{file_limit}
 use Rattle.cc_base.specs.declared.run.Outcome.{Outcome}
 use Rattle.cc_base.specs.declared.run.Outcome.TheVariants as outcome
 use Rattle.clight_text.specs.declared.tree.External.{External}
 use Rattle.clight_text.specs.declared.fault.SyntaxFault.{SyntaxFault}
 use Rattle.clight_text.specs.declared.fault.SyntaxFault.TheVariants as syntax
 use Rattle.clight_parser.specs.Parsing.{HasAnswer, OneAnswer}
-use Rattle.clight_syntax.specs.declared.second_items.Item.{Item}
-use Rattle.clight_syntax.specs.SecondForm.{IsSecondForm}
-use Rattle.clight_syntax.specs.SecondFaults.{source_fault, SourceFault}
-use Rattle.clight_syntax.specs.SecondFaults as source
+use Rattle.second_form.specs.declared.second_items.Item.{Item}
+use Rattle.second_form.specs.SecondFaults.{source_fault, SourceFault}
+use Rattle.second_form.specs.SecondFaults as source
 use Rattle.elf_file.specs.Object.{Object, object_of}
 use Rattle.elf_file.specs.Image.{IsImageOf}
 use Rattle.elf_file.specs.declared.image.ImageParts.{ImageParts}
@@ -23,14 +21,16 @@ use Rattle.elf_linker.specs.declared.fault.LinkFault.TheVariants as linking
 use Rattle.image_loader.specs.Load.{load_fault, image_after}
 use Rattle.image_loader.specs.declared.fault.LoadFault.{LoadFault}
 use Rattle.second_code.specs.LinkedObjects.{linked_objects}
+use Rattle.clight_faults.specs.declared.fault.Row.{Row}
 use Rattle.commands.specs.declared.answer.SyntaxKind.TheVariants as kind
 use Rattle.commands.specs.declared.answer.Status.{Status}
 use Rattle.commands.specs.declared.answer.Status.TheVariants as status
-use Rattle.commands.specs.Steps.{IsText, IsNoUnit, IsObjectFile, AreObjectFiles, IsNoObject, IsFirstNoObject, this, later}
+use Rattle.commands.specs.Steps.{rule_kind, limit_kind, row_at, BreaksRule, IsText, HasForm, LacksForm, IsObjectFile, AreObjectFiles, IsFirstNoObject, this, later}
 use Rattle.ccelf_build.specs.Contents.{Contents, StandsAt, IsAbsent, IsLong, AreAll, FirstStop}
 use Rattle.ccelf_build.specs.Laws.{Laws}
-use Rattle.ccelf_build.specs.Told.{Compiled, IsCompiled, HasNoUnit, HasFault, AreObjectsAt, IsLoaded, HasNoImage, IsNotLoaded, items_of}
-use Rattle.ccelf_build.specs.Causes.{PassesLimit, HasSyntaxFault, compile_reason, show_reason, link_reason, run_reason, refusal, IsProgram, AllCompiled}
+use Rattle.ccelf_build.proofs.OneForm.{row_status, rule_status, limit_status, has_or_lacks, breaks_or_has, breaks_or_lacks, one_broken, one_items}
+use Rattle.ccelf_build.specs.Told.{Compiled, IsCompiled, HasFault, HasBroken, AreObjectsAt, IsLoaded, HasNoImage, IsNotLoaded, items_of}
+use Rattle.ccelf_build.specs.Causes.{PassesLimit, PassesUnitLimit, PassesAnyLimit, HasSyntaxFault, HasTypeFault, compile_reason, show_reason, link_reason, run_reason, refusal, IsProgram}
 use Rattle.ccelf_build.proofs.Listing.{one_all, none_stops, same_stop, stop_for}
 
 both_there : (t : Option (List ℕ)) (a b : List ℕ) → t ≡ Some a → t ≡ Some b → a ≡ b
@@ -67,10 +67,10 @@ data TextKind (unit : List ℕ) (files : Contents) (so : List ℕ → Status →
   is_read : (text : List ℕ) → StandsAt files unit text → IsText text → so text s → TextKind unit files so s
 
 module _ (unit : List ℕ) (files : Contents) (so : List ℕ → Status → Type 0) where
-  limit_kind : PassesLimit files unit → TextKind unit files so status.Limit
-  limit_kind (inl h) = is_long h refl
-  limit_kind (inr (inl h)) = is_faulty syntax.Long (λ e. cc) h refl
-  limit_kind (inr (inr h)) = is_faulty (syntax.Deep h.0) (λ e. cc) h.1 refl
+  limits_kind : PassesLimit files unit → TextKind unit files so status.Limit
+  limits_kind (inl h) = is_long h refl
+  limits_kind (inr (inl h)) = is_faulty syntax.Long (λ e. cc) h refl
+  limits_kind (inr (inr h)) = is_faulty (syntax.Deep h.0) (λ e. cc) h.1 refl
 
   syntax_kind : HasSyntaxFault files unit → TextKind unit files so status.Syntax
   syntax_kind (kind.Char, h) = is_faulty (syntax.Char h.0) (λ e. cc) h.1 refl
@@ -117,25 +117,42 @@ module _ (laws : Laws) (unit : List ℕ) (files : Contents) where
   one_text so one s t (is_read text h is r) (is_read other k is' r') =
       let P : List ℕ → Type 0 = λ x. so x t in one text s t r (subst P (one_file files unit other text k h) r')
 
-  -- what a unit's text comes to in compile: it is of the form, or it is not
+  -- what a unit's text comes to in compile: it breaks a rule, or its tree is not of the form, or it is
   abbrev Formed : List ℕ → Status → Type 0
-  Formed text s = ((s ≡ status.Limit) × IsNoUnit text) ⊎ ((s ≡ status.Done) × ((items : List Item) × IsSecondForm text items))
+  Formed text s =
+      ((broken : Row) × (s ≡ row_status broken.kind) × BreaksRule text broken) ⊎ (((s ≡ status.Limit) × LacksForm text) ⊎ ((s ≡ status.Done) × ((items : List Item) × HasForm text items)))
 
   one_form : (text : List ℕ) (s t : Status) → Formed text s → Formed text t → s ≡ t
-  one_form text s t (inl h) (inl k) = h.0 ∙ sym k.0
-  one_form text s t (inl h) (inr k) = absurd (h.1 k.1.0 k.1.1)
-  one_form text s t (inr h) (inl k) = absurd (k.1 h.1.0 h.1.1)
-  one_form text s t (inr h) (inr k) = h.0 ∙ sym k.0
+  one_form text s t (inl h) (inl k) = h.1 ∙ ap (λ (r : Row). row_status r.kind) (one_broken laws text h.0 k.0 h.2 k.2) ∙ sym k.1
+  one_form text s t (inl h) (inr (inl k)) = absurd (breaks_or_lacks laws text h.0 h.2 k.1)
+  one_form text s t (inl h) (inr (inr k)) = absurd (breaks_or_has laws text h.0 k.1.0 h.2 k.1.1)
+  one_form text s t (inr (inl h)) (inl k) = absurd (breaks_or_lacks laws text k.0 k.2 h.1)
+  one_form text s t (inr (inr h)) (inl k) = absurd (breaks_or_has laws text k.0 h.1.0 k.2 h.1.1)
+  one_form text s t (inr (inl h)) (inr (inl k)) = h.0 ∙ sym k.0
+  one_form text s t (inr (inl h)) (inr (inr k)) = absurd (has_or_lacks laws text k.1.0 k.1.1 h.1)
+  one_form text s t (inr (inr h)) (inr (inl k)) = absurd (has_or_lacks laws text h.1.0 h.1.1 k.1)
+  one_form text s t (inr (inr h)) (inr (inr k)) = h.0 ∙ sym k.0
 
-  form_limit : PassesLimit files unit ⊎ HasNoUnit files unit → TextKind unit files Formed status.Limit
-  form_limit (inl h) = limit_kind unit files Formed h
-  form_limit (inr h) = is_read h.0 h.1 h.2 (inl (refl, h.3))
+  broken_kind : (s : Status) (broken : Row) → s ≡ row_status broken.kind → HasBroken files unit broken → TextKind unit files Formed s
+  broken_kind s broken e h = is_read h.0 h.1 (h.2.tree, h.2.parsed) (inl (broken, e, h.2))
+
+  type_kind : HasTypeFault files unit → TextKind unit files Formed status.Typing
+  type_kind h = broken_kind status.Typing (row_at (rule_kind h.0) h.1.0) (rule_status h.0) h.1.1
+
+  unit_limit_kind : PassesUnitLimit files unit → TextKind unit files Formed status.Limit
+  unit_limit_kind h = broken_kind status.Limit (row_at (limit_kind h.0) h.1.0) (limit_status h.0) h.1.1
+
+  form_limit : PassesAnyLimit files unit → TextKind unit files Formed status.Limit
+  form_limit (inl h) = limits_kind unit files Formed h
+  form_limit (inr (inl h)) = unit_limit_kind h
+  form_limit (inr (inr h)) = is_read h.0 h.1 (h.2.tree, h.2.parsed) (inr (inl (refl, h.2)))
 
   compile_kind : (s : Status) → compile_reason unit files s → TextKind unit files Formed s
   compile_kind status.Missing h = is_absent h refl
   compile_kind status.Syntax h = syntax_kind unit files Formed h
+  compile_kind status.Typing h = type_kind h
   compile_kind status.Limit h = form_limit h
-  compile_kind status.Done h = is_read h.1.text h.1.stands h.1.is_text (inr (refl, (h.0.items, h.1.form)))
+  compile_kind status.Done h = is_read h.1.text h.1.stands (h.1.form.tree, h.1.form.parsed) (inr (inr (refl, (h.0.items, h.1.form))))
   compile_kind _ h = absurd h
 
   pub compile_one : (s t : Status) → compile_reason unit files s → compile_reason unit files t → s ≡ t
@@ -148,7 +165,7 @@ module _ (laws : Laws) (unit : List ℕ) (files : Contents) where
   show_kind : (s : Status) → show_reason unit files s → TextKind unit files IsShown s
   show_kind status.Missing h = is_absent h refl
   show_kind status.Syntax h = syntax_kind unit files IsShown h
-  show_kind status.Limit h = limit_kind unit files IsShown h
+  show_kind status.Limit h = limits_kind unit files IsShown h
   show_kind status.Done h = is_read h.1.text h.1.stands (h.0, h.1.parsed) refl
   show_kind _ h = absurd h
 
@@ -324,6 +341,7 @@ data UnitKind (units : List (List ℕ)) (files : Contents) (s : Option Status) :
 unit_kind : (units : List (List ℕ)) (files : Contents) (s : Status) → refusal units files s → UnitKind units files (Some s)
 unit_kind units files status.Missing h = stops_at status.Missing refl (stop_for _ _ _ units (λ unit a. (a, λ e. cc)) h)
 unit_kind units files status.Syntax h = stops_at status.Syntax refl (stop_for _ _ _ units (λ unit a. (a, λ e. cc)) h)
+unit_kind units files status.Typing h = stops_at status.Typing refl (stop_for _ _ _ units (λ unit a. (a, λ e. cc)) h)
 unit_kind units files status.Limit h = stops_at status.Limit refl (stop_for _ _ _ units (λ unit a. (a, λ e. cc)) h)
 unit_kind units files status.Doubled h = all_are h.0 h.1 (sym (ap (λ (f : Option SourceFault). source_status f (too_long (linked_objects (items_of h.0)))) h.2.2))
 unit_kind units files status.Unresolved h = all_are h.0 h.1 (sym (ap (λ (f : Option SourceFault). source_status f (too_long (linked_objects (items_of h.0)))) h.2.2))
@@ -347,8 +365,8 @@ module _ (laws : Laws) (units : List (List ℕ)) (files : Contents) where
   same_items (name ∷ names) [] b h k = absurd h
   same_items (name ∷ names) (x ∷ a) [] h k = absurd k
   same_items (name ∷ names) (x ∷ a) (y ∷ b) h k =
-      let P : List ℕ → Type 0 = λ text. IsSecondForm text y.items in
-      let e : x.items ≡ y.items = laws.one_form h.0.text x.items y.items h.0.form (subst P (one_file files name k.0.text h.0.text k.0.stands h.0.stands) k.0.form) in
+      let P : List ℕ → Type 0 = λ text. HasForm text y.items in
+      let e : x.items ≡ y.items = one_items laws h.0.text x.items y.items h.0.form (subst P (one_file files name k.0.text h.0.text k.0.stands h.0.stands) k.0.form) in
       let f : items_of a ≡ items_of b = same_items names a b h.1 k.1 in
       cc
 

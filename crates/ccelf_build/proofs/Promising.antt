@@ -7,7 +7,7 @@ use Rattle.commands.specs.declared.answer.Answer.TheVariants as answer
 use Rattle.commands.specs.declared.answer.Status.{Status}
 use Rattle.commands.specs.declared.answer.Status.TheVariants as status
 use Rattle.commands.specs.Answers.{status_of}
-use Rattle.commands.specs.Doing.{Outside, outside, Command, Says}
+use Rattle.commands.specs.Doing.{Outside, outside, Says}
 use Rattle.commands.specs.Does.{does}
 use Rattle.ccelf_build.specs.Contents.{Contents}
 use Rattle.ccelf_build.specs.Ends.{Ends}
@@ -15,7 +15,7 @@ use Rattle.ccelf_build.specs.Kept.{Kept, names_put}
 use Rattle.ccelf_build.specs.Laws.{Laws}
 use Rattle.ccelf_build.specs.Tells.{Tells}
 use Rattle.ccelf_build.specs.Told.{compile_told, link_told, run_told, show_told, exec_told}
-use Rattle.ccelf_build.specs.Promise.{World, world, Asked, Answers, Promise}
+use Rattle.ccelf_build.specs.Promise.{World, Asked, Promise}
 use Rattle.ccelf_build.proofs.Compiling.{compile_row}
 use Rattle.ccelf_build.proofs.Executing.{exec_row}
 use Rattle.ccelf_build.proofs.Causing.{answered, caused}

@@ -77,6 +77,8 @@ compile_honest : (name text : List ℕ) → Honest (Compiles name text)
 compile_honest name text old new (answer.LimitText which) h = (ap counts h.1, λ e. cc)
 compile_honest name text old new (answer.LimitDeep which at) h = (ap counts h.1, λ e. cc)
 compile_honest name text old new (answer.Syntax which kind at) h = (ap counts h.1, λ e. cc)
+compile_honest name text old new (answer.Typing which broken at) h = (ap counts h.1, λ e. cc)
+compile_honest name text old new (answer.LimitUnit which limit at) h = (ap counts h.1, λ e. cc)
 compile_honest name text old new (answer.LimitForm which) h = (ap counts h.1, λ e. cc)
 compile_honest name text old new answer.Memory h = (inl (ap counts h.1), λ e. cc)
 compile_honest name text old new _ h = absurd h.0

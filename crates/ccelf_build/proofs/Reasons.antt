@@ -1,16 +1,11 @@
 -- Why a command has the status that it has: what its row tells.
-use Rattle.std.proofs.Common.{◌≡◌, ◌⊎◌, ◌∷◌, [], ℕ, List, Some, refl, inl, inr, ap, ◌∙◌, sym, subst}
+use Rattle.std.proofs.Common.{◌≡◌, ◌⊎◌, ℕ, List, refl, inl, inr, ap, ◌∙◌, sym, subst}
 use Rattle.cc_base.specs.Seen.{SinkSeen}
 use Rattle.elf_file.specs.declared.image.ImageParts.{ImageParts}
-use Rattle.elf_file.specs.Object.{Object}
-use Rattle.elf_linker.specs.Names.{link_fault}
 use Rattle.i386_machine.specs.declared.event.Cause.{Cause}
-use Rattle.i386_machine.specs.declared.event.Standing.{Standing}
-use Rattle.i386_machine.specs.Machine as machine
 use Rattle.i386_machine.specs.Runs.{after, outcome_of}
-use Rattle.cc_base.specs.declared.run.Outcome.{Outcome}
 use Rattle.cc_base.specs.declared.run.Outcome.TheVariants as outcome
-use Rattle.image_loader.specs.Load.{loaded, image_after}
+use Rattle.image_loader.specs.Load.{image_after}
 use Rattle.image_loader.specs.declared.fault.LoadFault.TheVariants as load
 use Rattle.commands.specs.declared.answer.Answer.{Answer}
 use Rattle.commands.specs.declared.answer.Answer.TheVariants as answer
@@ -18,13 +13,13 @@ use Rattle.commands.specs.declared.answer.Status.{Status}
 use Rattle.commands.specs.declared.answer.Status.TheVariants as status
 use Rattle.commands.specs.Answers.{status_of}
 use Rattle.commands.specs.Doing.{Outside}
-use Rattle.ccelf_build.specs.Contents.{Contents, IsAbsent, IsLong}
+use Rattle.ccelf_build.specs.Contents.{Contents}
 use Rattle.ccelf_build.specs.Ends.{Ends}
-use Rattle.ccelf_build.specs.Told.{HasNoUnit, IsStuck, IsBuilt, items_of, compile_told, link_told, run_told, show_told, exec_told}
+use Rattle.ccelf_build.specs.Told.{IsStuck, IsBuilt, items_of, compile_told, link_told, run_told, show_told, exec_told}
 use Rattle.ccelf_build.specs.Laws.{Laws}
 use Rattle.ccelf_build.specs.Causes.{Yields, ComesFor, compile_reason, link_reason, run_reason, show_reason, refusal, run_of_units, IsProgram, ExecComesFor}
 use Rattle.ccelf_build.proofs.Ending.{ended_so}
-use Rattle.clight_syntax.specs.SecondFaults.{source_fault}
+use Rattle.second_form.specs.SecondFaults.{source_fault}
 use Rattle.ccelf_build.proofs.Listing.{stop_for}
 use Rattle.ccelf_build.proofs.Objects.{are_units, none_is}
 use Rattle.ccelf_build.proofs.OneReason.{refused_one, not_refused}
@@ -61,7 +56,9 @@ compile_why unit object files old new (answer.LimitFile which) h = inl (inl (inl
 compile_why unit object files old new (answer.LimitText which) h = inl (inl (inr (inl h.1)))
 compile_why unit object files old new (answer.LimitDeep which at) h = inl (inl (inr (inr (at, h.1))))
 compile_why unit object files old new (answer.Syntax which kind at) h = inl (kind, (at, h.1))
-compile_why unit object files old new (answer.LimitForm which) h = inl (inr h.1)
+compile_why unit object files old new (answer.Typing which broken at) h = inl (broken, (at, h.1))
+compile_why unit object files old new (answer.LimitUnit which limit at) h = inl (inr (inl (limit, (at, h.1))))
+compile_why unit object files old new (answer.LimitForm which) h = inl (inr (inr h.1))
 compile_why unit object files old new (answer.ObjectStored size) h = inl (h.0, h.1)
 compile_why unit object files old new answer.ReadFault h = inr read_fault
 compile_why unit object files old new answer.WriteFault h = inr write_fault
@@ -115,7 +112,9 @@ exec_why steps image units files input old new (answer.LimitFile which) h = inl 
 exec_why steps image units files input old new (answer.LimitText which) h = inl (inl (stop_for _ _ _ units (λ name s. inl (inr (inl s.1))) h.0))
 exec_why steps image units files input old new (answer.LimitDeep which at) h = inl (inl (stop_for _ _ _ units (λ name s. inl (inr (inr (at, s.1)))) h.0))
 exec_why steps image units files input old new (answer.Syntax which kind at) h = inl (inl (stop_for _ _ _ units (λ name s. (kind, (at, s.1))) h.0))
-exec_why steps image units files input old new (answer.LimitForm which) h = inl (inl (stop_for _ _ _ units (λ name s. inr s.1) h.0))
+exec_why steps image units files input old new (answer.Typing which broken at) h = inl (inl (stop_for _ _ _ units (λ name s. (broken, (at, s.1))) h.0))
+exec_why steps image units files input old new (answer.LimitUnit which limit at) h = inl (inl (stop_for _ _ _ units (λ name s. inr (inl (limit, (at, s.1)))) h.0))
+exec_why steps image units files input old new (answer.LimitForm which) h = inl (inl (stop_for _ _ _ units (λ name s. inr (inr s.1)) h.0))
 exec_why steps image units files input old new (answer.Doubled name file) h = inl (inl (h.all, h.are, (h.is.0, name, h.is.1)))
 exec_why steps image units files input old new (answer.Unresolved name file) h = inl (inl (h.all, h.are, (h.is.0, name, h.is.1)))
 exec_why steps image units files input old new (answer.Range end) h = inl (inl (h.all, h.are, (h.is.0, (end, h.is.1))))

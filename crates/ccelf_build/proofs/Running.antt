@@ -1,22 +1,19 @@
 -- What run comes to, where the files and the input tell their bytes.
-use Rattle.std.proofs.Common.{◌≡◌, ◌⊎◌, ◌<◌, ◌∷◌, ◌++◌, [], ℕ, ◌+◌, List, Option, Some, None, option_map, drop, Result, Ok, Err, refl, inl, inr, ap, ◌∙◌, sym, subst}
+use Rattle.std.proofs.Common.{◌≡◌, ◌<◌, [], ℕ, List, Some, option_map, drop, refl, inl, inr, ap, ◌∙◌, subst}
 use Rattle.cc_base.specs.Seen.{FilesSeen, SourceSeen, SinkSeen}
 use Rattle.cc_base.specs.Outside.{grown}
 use Rattle.cc_base.specs.Runs.{emitted, taken}
 use Rattle.cc_base.specs.declared.run.Act.{Act}
-use Rattle.elf_file.specs.Image.{IsImageOf}
 use Rattle.elf_file.specs.declared.image.ImageParts.{ImageParts}
-use Rattle.image_loader.specs.Load.{load_fault, image_after}
-use Rattle.image_loader.specs.declared.fault.LoadFault.TheVariants as load
 use Rattle.commands.specs.declared.answer.Answer.{Answer}
 use Rattle.commands.specs.declared.answer.Answer.TheVariants as answer
 use Rattle.commands.specs.Doing.{Outside}
-use Rattle.commands.specs.Steps.{Ran, Runs, RunsBy, NextDoes, IsAsked, IsGiven, CutOff}
+use Rattle.commands.specs.Steps.{Ran, Runs, RunsBy, NextDoes, IsAsked, IsGiven}
 use Rattle.commands.specs.Does.{run_does}
 use Rattle.ccelf_build.specs.Contents.{Contents, StandsAt, DidPut}
-use Rattle.ccelf_build.specs.Told.{RanFor, RanUntil, Comes, IsLoaded, IsNotLoaded, RunsIt, run_told}
+use Rattle.ccelf_build.specs.Told.{RanFor, RanUntil, Comes, IsLoaded, run_told}
 use Rattle.ccelf_build.proofs.Runnings.{runs_by}
-use Rattle.ccelf_build.proofs.Units.{Tells, FetchRow, fetch_row, fetch_same, fetch_stands, none_put, nothing_done}
+use Rattle.ccelf_build.proofs.Units.{Tells, FetchRow, fetch_row, fetch_same, fetch_stands, nothing_done}
 use Rattle.ccelf_build.proofs.Untouching.{run_still}
 
 module _ (image : ImageParts) (input : List ℕ) (steps : ℕ) (old : Outside) (known : old.input.told ≡ Some input) where

@@ -1,6 +1,6 @@
 -- What show comes to, where the files tell their bytes.
-use Rattle.std.proofs.Common.{◌≡◌, ◌⊎◌, ◌∷◌, [], ℕ, List, Some, Result, Ok, Err, refl, inl, inr, ap, ◌∙◌, sym, subst}
-use Rattle.cc_base.specs.Seen.{FilesSeen, SourceSeen, SinkSeen}
+use Rattle.std.proofs.Common.{◌≡◌, ◌⊎◌, ℕ, List, Result, Ok, Err, inl, inr, ap, ◌∙◌, sym, subst}
+use Rattle.cc_base.specs.Seen.{SinkSeen}
 use Rattle.cc_base.specs.Outside.{SinkFailed, SinkWanted}
 use Rattle.clight_text.specs.declared.tree.External.{External}
 use Rattle.clight_parser.specs.Parsing.{HasTree}
@@ -9,10 +9,10 @@ use Rattle.commands.specs.declared.answer.Answer.{Answer}
 use Rattle.commands.specs.declared.answer.Answer.TheVariants as answer
 use Rattle.commands.specs.Doing.{Outside, Command, Says, Then}
 use Rattle.commands.specs.Giving.{CutShort}
-use Rattle.commands.specs.Steps.{Fetches, Parses, Keeps, GivesOut}
+use Rattle.commands.specs.Steps.{Parses, Keeps, GivesOut}
 use Rattle.commands.specs.Does.{show_does}
-use Rattle.ccelf_build.specs.Contents.{Contents, StandsAt, DidPut}
-use Rattle.ccelf_build.specs.Told.{HasTreeAt, ShowsIt, AllGiven, show_told}
+use Rattle.ccelf_build.specs.Contents.{Contents, StandsAt}
+use Rattle.ccelf_build.specs.Told.{ShowsIt, AllGiven, show_told}
 use Rattle.ccelf_build.proofs.Units.{Tells, FetchRow, fetch_row, fetch_same, fetch_stands, nothing_done}
 
 -- what is left once the canonical text was made, once the text was parsed, and once it was got

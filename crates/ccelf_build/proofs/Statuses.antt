@@ -1,8 +1,8 @@
 -- Which statuses a command may have.
-use Rattle.std.proofs.Common.{◌≡◌, ◌⊎◌, ◌∷◌, [], ℕ, List, map, length, Result, Ok, Err, refl, inl, inr, ap, ◌∙◌, sym, subst}
+use Rattle.std.proofs.Common.{◌≡◌, ◌⊎◌, ◌∷◌, [], ℕ, List, map, length, Result, Ok, Err, refl, inl, inr, sym, subst}
 use Rattle.clight_text.specs.declared.tree.External.{External}
 use Rattle.clight_print.specs.Canonical.{canonical_text}
-use Rattle.clight_syntax.specs.declared.second_items.Item.{Item}
+use Rattle.second_form.specs.declared.second_items.Item.{Item}
 use Rattle.elf_file.specs.declared.image.ImageParts.{ImageParts}
 use Rattle.command_words.specs.Commands.{Request, Compile, Link, Run, Show, Exec, object_name}
 use Rattle.commands.specs.declared.answer.Answer.{Answer}
@@ -10,7 +10,7 @@ use Rattle.commands.specs.declared.answer.Answer.TheVariants as answer
 use Rattle.commands.specs.declared.answer.Status.{Status}
 use Rattle.commands.specs.declared.answer.Status.TheVariants as status
 use Rattle.commands.specs.Answers.{status_of}
-use Rattle.commands.specs.Doing.{Outside, Step, Command, Says, Then, AndThen, Each}
+use Rattle.commands.specs.Doing.{Outside, Step, Says, Then, AndThen, Each}
 use Rattle.commands.specs.Steps.{Fetches, Stores, Parses, GivesOut, Compiles, Keeps, CompilesTo, Links, LinkedFrom, Runs, RunsBy}
 use Rattle.commands.specs.Does.{does}
 use Rattle.cc_base.specs.Seen.{SinkSeen}
@@ -43,9 +43,13 @@ memory = inr (inr (inr (inr (inr refl))))
 abbrev CommonStep : {A : Type 0} → Step A → Type 0
 CommonStep step = (old new : Outside) (e : Answer) → step old (Err e) new → IsCommon (status_of e)
 
--- a step that parses a text may have a fault of syntax too
+-- a step that compiles a text may have a fault of syntax or of types too
 abbrev OfText : Status → Type 0
-OfText s = IsCommon s ⊎ (s ≡ status.Syntax)
+OfText s = IsCommon s ⊎ ((s ≡ status.Syntax) ⊎ (s ≡ status.Typing))
+
+-- and one that parses it alone a fault of syntax
+abbrev OfSyntax : Status → Type 0
+OfSyntax s = IsCommon s ⊎ (s ≡ status.Syntax)
 
 abbrev TextStep : {A : Type 0} → Step A → Type 0
 TextStep step = (old new : Outside) (e : Answer) → step old (Err e) new → OfText (status_of e)
@@ -65,7 +69,7 @@ store_common name bytes old new answer.WriteFault h = write
 store_common name bytes old new answer.Memory h = memory
 store_common name bytes old new _ h = absurd h.0
 
-parse_text : (name text : List ℕ) → TextStep (Parses name text)
+parse_text : (name text : List ℕ) (old new : Outside) (e : Answer) → Parses name text old (Err e) new → OfSyntax (status_of e)
 parse_text name text old new (answer.LimitText which) h = inl limit
 parse_text name text old new (answer.LimitDeep which at) h = inl limit
 parse_text name text old new (answer.Syntax which kind at) h = inr refl
@@ -75,7 +79,9 @@ parse_text name text old new _ h = absurd h.0
 compile_text : (name text : List ℕ) → TextStep (Compiles name text)
 compile_text name text old new (answer.LimitText which) h = inl limit
 compile_text name text old new (answer.LimitDeep which at) h = inl limit
-compile_text name text old new (answer.Syntax which kind at) h = inr refl
+compile_text name text old new (answer.Syntax which kind at) h = inr (inl refl)
+compile_text name text old new (answer.Typing which broken at) h = inr (inr refl)
+compile_text name text old new (answer.LimitUnit which passed at) h = inl limit
 compile_text name text old new (answer.LimitForm which) h = inl limit
 compile_text name text old new answer.Memory h = inl memory
 compile_text name text old new _ h = absurd h.0
@@ -157,19 +163,19 @@ made_from (unit ∷ units) old new objects h =
     let a = h.went.goes_on in let b = a.goes_on in
     let P : List (List ℕ) → Type 0 = λ os. (items : List (List Item)) × AreMade items os in
     let all : objects ≡ a.value ∷ rest.value = (let e : ◌≡◌ {A = Result (List (List ℕ)) Answer} (Ok objects) (Ok (h.value ∷ rest.value)) = rest.goes_on.0 in let f = kept_value h.value a.value b.goes_on.0 in cc) in
-    subst P (sym all) (a.went.0.1.items ∷ more.0, (record { text = h.went.value; form = a.went.0.1.form; written = a.went.0.1.written }, more.1))
+    subst P (sym all) (a.went.0.items ∷ more.0, (record { text = h.went.value; form = a.went.0.form; written = a.went.0.written }, more.1))
 
 exec_link : (steps : ℕ) (image : List ℕ) (units names : List (List ℕ)) (items : List (List Item)) (e : Answer) → UnitsLinked names items (Err e) → IsStatusOf (Exec steps image units) (status_of e)
-exec_link steps image units names items (answer.Doubled name file) h = inr (inr (inl refl))
-exec_link steps image units names items (answer.Unresolved name file) h = inr (inr (inr (inl refl)))
-exec_link steps image units names items (answer.Range end) h = inr (inr (inr (inr (inl refl))))
+exec_link steps image units names items (answer.Doubled name file) h = inr (inr (inr (inl refl)))
+exec_link steps image units names items (answer.Unresolved name file) h = inr (inr (inr (inr (inl refl))))
+exec_link steps image units names items (answer.Range end) h = inr (inr (inr (inr (inr (inl refl)))))
 exec_link steps image units names items answer.Memory h = inl memory
 exec_link steps image units names items _ h = absurd h
 
 exec_run : (steps : ℕ) (image : List ℕ) (units : List (List ℕ)) (parts : ImageParts) (old new : Outside) (e : Answer) → RunsBy parts steps old e new → IsStatusOf (Exec steps image units) (status_of e)
 exec_run steps image units parts old new (answer.Ended code) h = inl (inl refl)
-exec_run steps image units parts old new answer.Spent h = inr (inr (inr (inr (inr (inl refl)))))
-exec_run steps image units parts old new (answer.Stuck eip cause) h = inr (inr (inr (inr (inr (inr refl)))))
+exec_run steps image units parts old new answer.Spent h = inr (inr (inr (inr (inr (inr (inl refl))))))
+exec_run steps image units parts old new (answer.Stuck eip cause) h = inr (inr (inr (inr (inr (inr (inr refl))))))
 exec_run steps image units parts old new answer.ReadFault h = inl read
 exec_run steps image units parts old new answer.WriteFault h = inl write
 exec_run steps image units parts old new answer.Memory h = inl memory
@@ -180,7 +186,8 @@ exec_statuses laws steps image units old new e (inl h) = of_units (each_text com
   where
     of_units : OfText (status_of e) → IsStatusOf (Exec steps image units) (status_of e)
     of_units (inl s) = inl s
-    of_units (inr s) = inr (inl s)
+    of_units (inr (inl s)) = inr (inl s)
+    of_units (inr (inr s)) = inr (inr (inl s))
 exec_statuses laws steps image units old new e (inr h) = after_units h.goes_on
   where
     made : (items : List (List Item)) × AreMade items h.value

@@ -1,16 +1,16 @@
 -- Units that are got, compiled and put one after the other, where the files tell their bytes.
-use Rattle.std.proofs.Common.{◌≡◌, ◌≢◌, ◌⊎◌, ◌∷◌, ◌++◌, [], ℕ, List, Some, None, map, Result, Ok, Err, refl, inl, inr, ap, ◌∙◌, sym, subst}
+use Rattle.std.proofs.Common.{◌≡◌, ◌∷◌, ◌++◌, [], ℕ, List, map, Result, Ok, Err, refl, inl, inr, ap, ◌∙◌, sym, subst}
 use Rattle.std.specs.FinMap.{get, insert}
-use Rattle.clight_syntax.specs.declared.second_items.Item.{Item}
 use Rattle.command_words.specs.Commands.{object_name}
 use Rattle.commands.specs.declared.answer.Answer.{Answer}
 use Rattle.commands.specs.declared.answer.Answer.TheVariants as answer
-use Rattle.commands.specs.Doing.{Outside, Step, AndThen, Each}
+use Rattle.commands.specs.Doing.{Outside, Step, Each}
 use Rattle.clight_text.specs.declared.fault.SyntaxFault.{SyntaxFault}
+use Rattle.clight_faults.specs.declared.fault.Row.{Row}
 use Rattle.clight_text.specs.declared.fault.SyntaxFault.TheVariants as syntax
-use Rattle.commands.specs.Steps.{CompilesTo, fault_at}
-use Rattle.ccelf_build.specs.Contents.{Contents, IsAbsent, IsLong, AreAll, FirstStop, NamedBytes, put_all, DidPut}
-use Rattle.ccelf_build.specs.Told.{Compiled, IsCompiled, HasNoUnit, HasFault, AreMade, objects_of, items_of}
+use Rattle.commands.specs.Steps.{CompilesTo, fault_at, rule_kind, limit_kind, row_at}
+use Rattle.ccelf_build.specs.Contents.{Contents, IsAbsent, IsLong, AreAll, FirstStop, NamedBytes, DidPut}
+use Rattle.ccelf_build.specs.Told.{Compiled, IsCompiled, HasNoUnit, HasFault, HasBroken, AreMade, objects_of, items_of}
 use Rattle.ccelf_build.proofs.Chains.{rest_failed}
 use Rattle.ccelf_build.proofs.Listing.{stop_here, stop_later}
 use Rattle.ccelf_build.proofs.Names.{Lacks, Apart, get-other}
@@ -52,6 +52,8 @@ UnitsRow files now units old (answer.LimitFile which) new = (first : FirstStop (
 UnitsRow files now units old (answer.LimitText which) new = (first : FirstStop (IsCompiled files) units (λ unit. (which ≡ unit) × HasFault files unit syntax.Long)) × DidPut now (objects_of first.done first.all) old new
 UnitsRow files now units old (answer.LimitDeep which at) new = (first : FirstStop (IsCompiled files) units (λ unit. (which ≡ unit) × HasFault files unit (syntax.Deep at))) × DidPut now (objects_of first.done first.all) old new
 UnitsRow files now units old (answer.Syntax which kind at) new = (first : FirstStop (IsCompiled files) units (λ unit. (which ≡ unit) × HasFault files unit (fault_at kind at))) × DidPut now (objects_of first.done first.all) old new
+UnitsRow files now units old (answer.Typing which broken at) new = (first : FirstStop (IsCompiled files) units (λ unit. (which ≡ unit) × HasBroken files unit (row_at (rule_kind broken) at))) × DidPut now (objects_of first.done first.all) old new
+UnitsRow files now units old (answer.LimitUnit which limit at) new = (first : FirstStop (IsCompiled files) units (λ unit. (which ≡ unit) × HasBroken files unit (row_at (limit_kind limit) at))) × DidPut now (objects_of first.done first.all) old new
 UnitsRow files now units old (answer.LimitForm which) new = (first : FirstStop (IsCompiled files) units (λ unit. (which ≡ unit) × HasNoUnit files unit)) × DidPut now (objects_of first.done first.all) old new
 UnitsRow files now units old answer.ReadFault new = PutFirst files now units old new
 UnitsRow files now units old answer.WriteFault new = PutFirst files now units old new
@@ -67,16 +69,19 @@ pub record UnitsDone (files now : Contents) (units : List (List ℕ)) (old : Out
 
 module _ (files : Contents) where
   as_there : (now : Contents) (unit : List ℕ) (made : Compiled) → get now unit ≡ get files unit → IsCompiled now unit made → IsCompiled files unit made
-  as_there now unit made same is = record { text = is.text; stands = record { there = sym same ∙ is.stands.there; short = is.stands.short }; is_text = is.is_text; form = is.form; written = is.written }
+  as_there now unit made same is = record { text = is.text; stands = record { there = sym same ∙ is.stands.there; short = is.stands.short }; form = is.form; written = is.written }
 
   long_there : (now : Contents) (unit : List ℕ) → get now unit ≡ get files unit → IsLong now unit → IsLong files unit
   long_there now unit same h = (h.0, sym same ∙ h.1, h.2)
 
   none_there : (now : Contents) (unit : List ℕ) → get now unit ≡ get files unit → HasNoUnit now unit → HasNoUnit files unit
-  none_there now unit same h = (h.0, record { there = sym same ∙ h.1.there; short = h.1.short }, h.2, h.3)
+  none_there now unit same h = (h.0, record { there = sym same ∙ h.1.there; short = h.1.short }, h.2)
 
   fault_there : (now : Contents) (unit : List ℕ) (fault : SyntaxFault) → get now unit ≡ get files unit → HasFault now unit fault → HasFault files unit fault
   fault_there now unit fault same h = (h.0, record { there = sym same ∙ h.1.there; short = h.1.short }, h.2)
+
+  broken_there : (now : Contents) (unit : List ℕ) (broken : Row) → get now unit ≡ get files unit → HasBroken now unit broken → HasBroken files unit broken
+  broken_there now unit broken same h = (h.0, record { there = sym same ∙ h.1.there; short = h.1.short }, h.2)
 
   module _ (now : Contents) (unit : List ℕ) (units : List (List ℕ)) (old new : Outside) (same : get now unit ≡ get files unit) where
     nothing_put : DidPut now [] old new → PutFirst files now (unit ∷ units) old new
@@ -88,6 +93,8 @@ module _ (files : Contents) where
     from_unit (answer.LimitText which) h = (stop_here (IsCompiled files) _ unit units (h.0, fault_there now unit syntax.Long same h.1), h.2)
     from_unit (answer.LimitDeep which at) h = (stop_here (IsCompiled files) _ unit units (h.0, fault_there now unit (syntax.Deep at) same h.1), h.2)
     from_unit (answer.Syntax which kind at) h = (stop_here (IsCompiled files) _ unit units (h.0, fault_there now unit (fault_at kind at) same h.1), h.2)
+    from_unit (answer.Typing which broken at) h = (stop_here (IsCompiled files) _ unit units (h.0, broken_there now unit (row_at (rule_kind broken) at) same h.1), h.2)
+    from_unit (answer.LimitUnit which limit at) h = (stop_here (IsCompiled files) _ unit units (h.0, broken_there now unit (row_at (limit_kind limit) at) same h.1), h.2)
     from_unit (answer.LimitForm which) h = (stop_here (IsCompiled files) _ unit units (h.0, none_there now unit same h.1), h.2)
     from_unit answer.ReadFault h = nothing_put h
     from_unit answer.WriteFault h = nothing_put h
@@ -118,6 +125,8 @@ module _ (files : Contents) where
       from_later (answer.LimitText which) h = (stop_later (IsCompiled files) _ unit units made (as_there now unit made same is) h.0, more (objects_of h.0.done h.0.all) h.1)
       from_later (answer.LimitDeep which at) h = (stop_later (IsCompiled files) _ unit units made (as_there now unit made same is) h.0, more (objects_of h.0.done h.0.all) h.1)
       from_later (answer.Syntax which kind at) h = (stop_later (IsCompiled files) _ unit units made (as_there now unit made same is) h.0, more (objects_of h.0.done h.0.all) h.1)
+      from_later (answer.Typing which broken at) h = (stop_later (IsCompiled files) _ unit units made (as_there now unit made same is) h.0, more (objects_of h.0.done h.0.all) h.1)
+      from_later (answer.LimitUnit which limit at) h = (stop_later (IsCompiled files) _ unit units made (as_there now unit made same is) h.0, more (objects_of h.0.done h.0.all) h.1)
       from_later (answer.LimitForm which) h = (stop_later (IsCompiled files) _ unit units made (as_there now unit made same is) h.0, more (objects_of h.0.done h.0.all) h.1)
       from_later answer.ReadFault h = one_more h
       from_later answer.WriteFault h = one_more h

@@ -1,18 +1,15 @@
 -- A unit that is got, compiled and put, and units one after the other, where the files tell their bytes.
-use Rattle.std.proofs.Common.{◌≡◌, ◌≢◌, ◌⊎◌, ◌<◌, ◌≤◌, ◌∷◌, ◌++◌, [], ℕ, zero, suc, ◌+◌, List, Option, Some, None, IfSome, option_map, map, length, Result, Ok, Err, refl, inl, inr, ap, ◌∙◌, sym, subst}
+use Rattle.std.proofs.Common.{◌≡◌, ◌⊎◌, ◌<◌, ◌∷◌, ◌++◌, [], ℕ, List, Option, Some, None, IfSome, option_map, length, Result, Ok, Err, refl, inl, inr, ap, ◌∙◌, sym, subst}
 use Rattle.std.specs.FinMap.{get, insert}
 use Rattle.cc_base.specs.Seen.{FilesSeen}
 use Rattle.cc_base.specs.Outside.{file_limit}
-use Rattle.clight_syntax.specs.declared.second_items.Item.{Item}
-use Rattle.command_words.specs.Commands.{object_name}
 use Rattle.commands.specs.declared.answer.Answer.{Answer}
 use Rattle.commands.specs.declared.answer.Answer.TheVariants as answer
-use Rattle.commands.specs.Doing.{Outside, Step, Then, AndThen, Each}
+use Rattle.commands.specs.Doing.{Outside, AndThen}
 use Rattle.clight_text.specs.declared.fault.SyntaxFault.TheVariants as syntax
-use Rattle.commands.specs.Steps.{Fetches, Stores, Compiles, Keeps, CompilesTo, fault_at}
-use Rattle.ccelf_build.specs.Contents.{Contents, StandsAt, IsAbsent, IsLong, AreAll, FirstStop, NamedBytes, put_all, DidPut}
-use Rattle.ccelf_build.specs.Told.{Compiled, IsCompiled, HasNoUnit, HasFault, objects_of, SomePut}
-use Rattle.ccelf_build.proofs.Listing.{stop_here, stop_later}
+use Rattle.commands.specs.Steps.{Fetches, Stores, Compiles, Keeps, CompilesTo, fault_at, rule_kind, limit_kind, row_at}
+use Rattle.ccelf_build.specs.Contents.{Contents, StandsAt, IsAbsent, IsLong, NamedBytes, put_all, DidPut}
+use Rattle.ccelf_build.specs.Told.{Compiled, IsCompiled, HasNoUnit, HasFault, HasBroken}
 
 -- what is told of files that tell their bytes
 pub told_at : (P : Contents → Type 0) (t : Option Contents) (files : Contents) → t ≡ Some files → IfSome t P → P files
@@ -76,6 +73,8 @@ UnitRow files unit name old (answer.LimitFile which) new = (which ≡ unit) × I
 UnitRow files unit name old (answer.LimitText which) new = (which ≡ unit) × HasFault files unit syntax.Long × DidPut files [] old new
 UnitRow files unit name old (answer.LimitDeep which at) new = (which ≡ unit) × HasFault files unit (syntax.Deep at) × DidPut files [] old new
 UnitRow files unit name old (answer.Syntax which kind at) new = (which ≡ unit) × HasFault files unit (fault_at kind at) × DidPut files [] old new
+UnitRow files unit name old (answer.Typing which broken at) new = (which ≡ unit) × HasBroken files unit (row_at (rule_kind broken) at) × DidPut files [] old new
+UnitRow files unit name old (answer.LimitUnit which limit at) new = (which ≡ unit) × HasBroken files unit (row_at (limit_kind limit) at) × DidPut files [] old new
 UnitRow files unit name old (answer.LimitForm which) new = (which ≡ unit) × HasNoUnit files unit × DidPut files [] old new
 UnitRow files unit name old answer.ReadFault new = DidPut files [] old new
 UnitRow files unit name old answer.WriteFault new = DidPut files [] old new
@@ -95,7 +94,9 @@ module _ (files : Contents) (unit name : List ℕ) (old : Outside) (there : Tell
     from_compile new (answer.LimitText which) h = (h.0.1, (text, stands, h.0.0), nothing_done files old new there h.1)
     from_compile new (answer.LimitDeep which at) h = (h.0.1, (text, stands, h.0.0), nothing_done files old new there h.1)
     from_compile new (answer.Syntax which kind at) h = (h.0.1, (text, stands, h.0.0), nothing_done files old new there h.1)
-    from_compile new (answer.LimitForm which) h = (h.0.2, (text, stands, h.0.0, h.0.1), nothing_done files old new there h.1)
+    from_compile new (answer.Typing which broken at) h = (h.0.1, (text, stands, h.0.0), nothing_done files old new there h.1)
+    from_compile new (answer.LimitUnit which limit at) h = (h.0.1, (text, stands, h.0.0), nothing_done files old new there h.1)
+    from_compile new (answer.LimitForm which) h = (h.0.1, (text, stands, h.0.0), nothing_done files old new there h.1)
     from_compile new answer.Memory h = inl (nothing_done files old new there h.1)
     from_compile new _ h = absurd h.0
 
@@ -119,7 +120,7 @@ module _ (files : Contents) (unit name : List ℕ) (old : Outside) (there : Tell
 
     -- the text's items and its object
     abbrev made_of : (object : List ℕ) (mid : Outside) → Compiles unit text old (Ok object) mid → (made : Compiled) × IsCompiled files unit made × (object ≡ made.object)
-    made_of object mid h = (record { items = h.0.1.items; object = object }, record { text = text; stands = stands; is_text = h.0.0; form = h.0.1.form; written = h.0.1.written }, refl)
+    made_of object mid h = (record { items = h.0.items; object = object }, record { text = text; stands = stands; form = h.0.form; written = h.0.written }, refl)
 
     after_fetch : (new : Outside) (e : Answer) → AndThen (Compiles unit text) (λ object. AndThen (Stores name object) (λ _. Keeps object)) old (Err e) new → UnitRow files unit name old e new
     after_fetch new e (inl h) = from_compile new e h
@@ -144,8 +145,8 @@ module _ (files : Contents) (unit name : List ℕ) (old : Outside) (there : Tell
       let same = fetch_same unit h.value old h.between h.went in
       let a = h.goes_on in let b = a.goes_on in
       let stands = fetch_stands files unit h.value old h.between there h.went in
-      let made : Compiled = record { items = a.went.0.1.items; object = a.value } in
-      let is : IsCompiled files unit made = record { text = h.value; stands = stands; is_text = a.went.0.0; form = a.went.0.1.form; written = a.went.0.1.written } in
+      let made : Compiled = record { items = a.went.0.items; object = a.value } in
+      let is : IsCompiled files unit made = record { text = h.value; stands = stands; form = a.went.0.form; written = a.went.0.written } in
       let P : Outside → Type 0 = λ from. Stores name a.value from (Ok tt) b.between in
       let Q : Outside → Type 0 = λ end. DidPut files (put_of name made ∷ []) old end in
       (made, is, kept_value object a.value b.goes_on.0, subst Q (sym b.goes_on.1) (put_one files name a.value old b.between there (subst P (a.went.1 ∙ same) b.went)))

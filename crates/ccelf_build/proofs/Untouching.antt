@@ -1,13 +1,12 @@
 -- What a command does not touch.
-use Rattle.std.proofs.Common.{◌≡◌, ◌⊎◌, ◌∷◌, [], ℕ, List, Result, Ok, Err, refl, inl, inr, ap, ◌∙◌, subst}
-use Rattle.cc_base.specs.Seen.{FilesSeen, SourceSeen, SinkSeen}
+use Rattle.std.proofs.Common.{◌≡◌, ◌∷◌, [], ℕ, List, Result, Ok, Err, refl, inl, inr, ap, ◌∙◌, subst}
+use Rattle.cc_base.specs.Seen.{FilesSeen, SinkSeen}
 use Rattle.elf_file.specs.declared.image.ImageParts.{ImageParts}
 use Rattle.command_words.specs.Commands.{Request, Compile, Link, Run, Show, Exec}
 use Rattle.commands.specs.declared.answer.Answer.{Answer}
 use Rattle.commands.specs.declared.answer.Answer.TheVariants as answer
 use Rattle.commands.specs.declared.answer.Status.{Status}
-use Rattle.commands.specs.Doing.{Outside, outside, Step, Command, Then, AndThen, Each, Says}
-use Rattle.clight_text.specs.declared.tree.External.{External}
+use Rattle.commands.specs.Doing.{Outside, Step, Command, Then, AndThen, Each}
 use Rattle.clight_print.specs.Canonical.{canonical_text}
 use Rattle.commands.specs.Steps.{Fetches, Stores, Parses, GivesOut, Compiles, Keeps, CompilesTo, Links, Runs, RunsBy}
 use Rattle.commands.specs.Does.{does}

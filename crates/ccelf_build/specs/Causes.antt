@@ -4,10 +4,10 @@ use Rattle.cc_base.specs.declared.run.Outcome.{Outcome}
 use Rattle.cc_base.specs.declared.run.Outcome.TheVariants as outcome
 use Rattle.clight_text.specs.declared.tree.External.{External}
 use Rattle.clight_text.specs.declared.fault.SyntaxFault.TheVariants as syntax
-use Rattle.clight_syntax.specs.declared.second_items.Item.{Item}
-use Rattle.clight_syntax.specs.SecondFaults.{source_fault}
-use Rattle.clight_syntax.specs.SecondFaults as source
-use Rattle.clight_syntax.specs.SecondRun.{second_after}
+use Rattle.second_form.specs.declared.second_items.Item.{Item}
+use Rattle.second_form.specs.SecondFaults.{source_fault}
+use Rattle.second_form.specs.SecondFaults as source
+use Rattle.second_form.specs.SecondRun.{second_after}
 use Rattle.pass_core.specs.Refines.{Sound}
 use Rattle.elf_file.specs.Object.{Object}
 use Rattle.elf_file.specs.declared.image.ImageParts.{ImageParts}
@@ -19,11 +19,13 @@ use Rattle.image_loader.specs.Load.{image_after}
 use Rattle.image_loader.specs.declared.fault.LoadFault.{LoadFault}
 use Rattle.second_code.specs.LinkedObjects.{linked_objects}
 use Rattle.commands.specs.declared.answer.SyntaxKind.{SyntaxKind}
+use Rattle.commands.specs.declared.answer.TypingKind.{TypingKind}
+use Rattle.commands.specs.declared.answer.UnitLimit.{UnitLimit}
 use Rattle.commands.specs.declared.answer.Status.{Status}
 use Rattle.commands.specs.declared.answer.Status.TheVariants as status
-use Rattle.commands.specs.Steps.{fault_at, IsFirstNoObject}
+use Rattle.commands.specs.Steps.{fault_at, rule_kind, limit_kind, row_at, IsFirstNoObject}
 use Rattle.ccelf_build.specs.Contents.{Contents, StandsAt, IsAbsent, IsLong, AreAll, FirstStop}
-use Rattle.ccelf_build.specs.Told.{Compiled, IsCompiled, HasNoUnit, HasFault, HasTreeAt, AreObjectsAt, IsLoaded, IsNotLoaded, HasNoImage, IsBuilt, items_of}
+use Rattle.ccelf_build.specs.Told.{Compiled, IsCompiled, HasNoUnit, HasFault, HasBroken, HasTreeAt, AreObjectsAt, IsLoaded, IsNotLoaded, HasNoImage, IsBuilt, items_of}
 
 -- A fault of the outside, which raised its count, or want of memory stands in place of the status.
 abbrev pub Yields : Status → Type 0
@@ -42,11 +44,23 @@ PassesLimit files unit = IsLong files unit ⊎ (HasFault files unit syntax.Long 
 abbrev pub HasSyntaxFault : Contents → List ℕ → Type 0
 HasSyntaxFault files unit = (kind : SyntaxKind) × ((at : ℕ) × HasFault files unit (fault_at kind at))
 
+-- a unit that breaks a rule of the types, and one that passes a limit of a unit
+abbrev pub HasTypeFault : Contents → List ℕ → Type 0
+HasTypeFault files unit = (kind : TypingKind) × ((at : ℕ) × HasBroken files unit (row_at (rule_kind kind) at))
+
+abbrev pub PassesUnitLimit : Contents → List ℕ → Type 0
+PassesUnitLimit files unit = (limit : UnitLimit) × ((at : ℕ) × HasBroken files unit (row_at (limit_kind limit) at))
+
+-- a unit that is not compiled for a limit: of the text, of the unit, or of the form
+abbrev pub PassesAnyLimit : Contents → List ℕ → Type 0
+PassesAnyLimit files unit = PassesLimit files unit ⊎ (PassesUnitLimit files unit ⊎ HasNoUnit files unit)
+
 -- the reasons of compile
 abbrev pub compile_reason : List ℕ → Contents → Status → Type 0
 compile_reason unit files status.Missing = IsAbsent files unit
 compile_reason unit files status.Syntax = HasSyntaxFault files unit
-compile_reason unit files status.Limit = PassesLimit files unit ⊎ HasNoUnit files unit
+compile_reason unit files status.Typing = HasTypeFault files unit
+compile_reason unit files status.Limit = PassesAnyLimit files unit
 compile_reason unit files status.Done = (made : Compiled) × IsCompiled files unit made
 compile_reason unit files _ = ⊥
 
@@ -96,7 +110,8 @@ AllCompiled units files so = (all : List Compiled) × AreAll (IsCompiled files) 
 abbrev pub refusal : List (List ℕ) → Contents → Status → Type 0
 refusal units files status.Missing = FirstStop (IsCompiled files) units (IsAbsent files)
 refusal units files status.Syntax = FirstStop (IsCompiled files) units (HasSyntaxFault files)
-refusal units files status.Limit = FirstStop (IsCompiled files) units (λ unit. PassesLimit files unit ⊎ HasNoUnit files unit)
+refusal units files status.Typing = FirstStop (IsCompiled files) units (HasTypeFault files)
+refusal units files status.Limit = FirstStop (IsCompiled files) units (PassesAnyLimit files)
 refusal units files status.Doubled = AllCompiled units files (λ items. (unit : ℕ) × (name : List ℕ) × (source_fault items ≡ Some (source.Doubled unit name)))
 refusal units files status.Unresolved = AllCompiled units files (λ items. (unit : ℕ) × (name : List ℕ) × (source_fault items ≡ Some (source.Unresolved unit name)))
 refusal units files status.Range = AllCompiled units files (λ items. (source_fault items ≡ None) × ((end : ℕ) × (too_long (linked_objects items) ≡ Some (linking.Range end))))

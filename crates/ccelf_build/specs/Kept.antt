@@ -3,7 +3,7 @@ use Rattle.std.specs.Prelude.{◌≡◌, ◌⊎◌, List, ℕ, [], ◌∷◌, �
 use Rattle.cc_base.specs.Seen.{FilesSeen, SourceSeen, SinkSeen}
 use Rattle.cc_base.specs.Outside.{all_out, SinkFailed}
 use Rattle.command_words.specs.Commands.{Request, Compile, Link, Run, Show, Exec, object_name}
-use Rattle.ccelf_build.specs.Contents.{Contents, NamedBytes, put_all}
+use Rattle.ccelf_build.specs.Contents.{NamedBytes, put_all}
 
 -- the names that a command puts, in order
 abbrev pub names_put : Request → List (List ℕ)

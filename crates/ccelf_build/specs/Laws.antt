@@ -1,13 +1,11 @@
 -- Laws of the crates below that the promises rest on.
-use Rattle.std.specs.Prelude.{◌≡◌, ◌≢◌, ℕ, List, All, None, Result}
-use Rattle.cc_base.specs.declared.run.Outcome.TheVariants.{Wrong}
+use Rattle.std.specs.Prelude.{◌≡◌, ℕ, List, All, None, Result}
 use Rattle.clight_text.specs.declared.tree.External.{External}
 use Rattle.clight_text.specs.declared.fault.SyntaxFault.{SyntaxFault}
 use Rattle.clight_parser.specs.Parsing.{HasAnswer, OneAnswer}
-use Rattle.clight_syntax.specs.declared.second_items.Item.{Item}
-use Rattle.clight_syntax.specs.SecondForm.{IsSecondForm}
-use Rattle.clight_syntax.specs.SecondFaults.{source_fault}
-use Rattle.clight_syntax.specs.SecondRun.{second_after}
+use Rattle.second_form.specs.declared.second_items.Item.{Item}
+use Rattle.second_form.specs.SecondFaults.{source_fault}
+use Rattle.second_form.specs.SecondRun.{second_after}
 use Rattle.elf_file.specs.Read.{IsFileOf}
 use Rattle.elf_file.specs.Image.{IsImageOf}
 use Rattle.elf_file.specs.declared.parts.ObjectParts.{ObjectParts}
@@ -22,8 +20,6 @@ use Rattle.second_code.specs.LinkedObjects.{IsUnit, linked_objects}
 pub record Laws : Type 0 where
   -- a text has one answer of the parser, but for want of memory
   pub one_answer : (text : List ℕ) (one other : Result (List External) SyntaxFault) → HasAnswer text one → HasAnswer text other → OneAnswer one other
-  -- a text has one list of items
-  pub one_form : (text : List ℕ) (one other : List Item) → IsSecondForm text one → IsSecondForm text other → one ≡ other
   -- a file is the object of one parts, and the image of one parts
   pub one_object : (one other : ObjectParts) (file : List ℕ) → IsFileOf one file → IsFileOf other file → one ≡ other
   pub one_image : (one other : ImageParts) (file : List ℕ) → IsImageOf one file → IsImageOf other file → one ≡ other

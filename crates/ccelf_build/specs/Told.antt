@@ -7,14 +7,14 @@ use Rattle.cc_base.specs.declared.run.Act.{Act}
 use Rattle.cc_base.specs.declared.run.Outcome.TheVariants as outcome
 use Rattle.clight_text.specs.declared.tree.External.{External}
 use Rattle.clight_text.specs.declared.fault.SyntaxFault.{SyntaxFault}
+use Rattle.clight_faults.specs.declared.fault.Row.{Row}
 use Rattle.clight_text.specs.declared.fault.SyntaxFault.TheVariants as syntax
 use Rattle.clight_parser.specs.Parsing.{HasTree, HasAnswer}
 use Rattle.clight_print.specs.Canonical.{canonical_text}
-use Rattle.clight_syntax.specs.declared.second_items.Item.{Item}
-use Rattle.clight_syntax.specs.SecondForm.{IsSecondForm}
-use Rattle.clight_syntax.specs.SecondFaults.{source_fault}
-use Rattle.clight_syntax.specs.SecondFaults as source
-use Rattle.clight_syntax.specs.SecondRun.{second_after}
+use Rattle.second_form.specs.declared.second_items.Item.{Item}
+use Rattle.second_form.specs.SecondFaults.{source_fault}
+use Rattle.second_form.specs.SecondFaults as source
+use Rattle.second_form.specs.SecondRun.{second_after}
 use Rattle.pass_core.specs.Refines.{Refines}
 use Rattle.elf_file.specs.Object.{Object}
 use Rattle.elf_file.specs.Read.{IsFileOf}
@@ -35,7 +35,7 @@ use Rattle.command_words.specs.Commands.{object_name}
 use Rattle.commands.specs.declared.answer.Answer.TheVariants as answer
 use Rattle.commands.specs.Doing.{Outside, Command}
 use Rattle.commands.specs.Giving.{CutShort}
-use Rattle.commands.specs.Steps.{fault_at, IsText, IsNoUnit, AreObjectFiles, IsFirstNoObject, IsLinkedImage, LinkedBy, file_name, IsAsked, IsGiven}
+use Rattle.commands.specs.Steps.{fault_at, rule_kind, limit_kind, row_at, BreaksRule, HasForm, LacksForm, AreObjectFiles, IsFirstNoObject, IsLinkedImage, LinkedBy, file_name, IsAsked, IsGiven}
 use Rattle.ccelf_build.specs.Contents.{Contents, StandsAt, IsAbsent, IsLong, AreAll, FirstStop, NamedBytes, put_all, DidPut}
 
 -- a unit that was compiled: its items and the bytes of its object
@@ -47,17 +47,20 @@ pub record Compiled : Type 0 where
 pub record IsCompiled (files : Contents) (unit : List ℕ) (made : Compiled) : Type 0 where
   pub text : List ℕ
   pub stands : StandsAt files unit text
-  pub is_text : IsText text
-  pub form : IsSecondForm text made.items
+  pub form : HasForm text made.items
   pub written : IsFileOf (parts_of made.items) made.object
 
 -- under the name stands a unit's text that is not of the form
 abbrev pub HasNoUnit : Contents → List ℕ → Type 0
-HasNoUnit files unit = (text : List ℕ) × StandsAt files unit text × IsText text × IsNoUnit text
+HasNoUnit files unit = (text : List ℕ) × StandsAt files unit text × LacksForm text
 
 -- under the name stands a text with this fault, which is no unit's
 abbrev pub HasFault : Contents → List ℕ → SyntaxFault → Type 0
 HasFault files unit fault = (text : List ℕ) × StandsAt files unit text × HasAnswer text (Err fault)
+
+-- under the name stands a unit's text that breaks this rule of the types first
+abbrev pub HasBroken : Contents → List ℕ → Row → Type 0
+HasBroken files unit broken = (text : List ℕ) × StandsAt files unit text × BreaksRule text broken
 
 -- compile: the object of the unit is put under its name
 abbrev pub compile_told : List ℕ → List ℕ → Contents → Command
@@ -66,6 +69,8 @@ compile_told unit object files old (answer.LimitFile which) new = (which ≡ uni
 compile_told unit object files old (answer.LimitText which) new = (which ≡ unit) × HasFault files unit syntax.Long × DidPut files [] old new
 compile_told unit object files old (answer.LimitDeep which at) new = (which ≡ unit) × HasFault files unit (syntax.Deep at) × DidPut files [] old new
 compile_told unit object files old (answer.Syntax which kind at) new = (which ≡ unit) × HasFault files unit (fault_at kind at) × DidPut files [] old new
+compile_told unit object files old (answer.Typing which broken at) new = (which ≡ unit) × HasBroken files unit (row_at (rule_kind broken) at) × DidPut files [] old new
+compile_told unit object files old (answer.LimitUnit which limit at) new = (which ≡ unit) × HasBroken files unit (row_at (limit_kind limit) at) × DidPut files [] old new
 compile_told unit object files old (answer.LimitForm which) new = (which ≡ unit) × HasNoUnit files unit × DidPut files [] old new
 compile_told unit object files old (answer.ObjectStored size) new =
     (made : Compiled) × IsCompiled files unit made × (size ≡ length made.object) × DidPut files (record { name = object; bytes = made.object } ∷ []) old new
@@ -109,7 +114,7 @@ show_told unit files old _ new = ⊥
 -- the file is the object of a text of these items
 pub record IsMade (items : List Item) (file : List ℕ) : Type 0 where
   pub text : List ℕ
-  pub form : IsSecondForm text items
+  pub form : HasForm text items
   pub written : IsFileOf (parts_of items) file
 
 -- these are objects of units, one by one, whenever and wherever they were made
@@ -279,6 +284,8 @@ exec_told steps image units files input old (answer.LimitFile which) new = UnitS
 exec_told steps image units files input old (answer.LimitText which) new = UnitStops (λ unit. (which ≡ unit) × HasFault files unit syntax.Long) units files old new
 exec_told steps image units files input old (answer.LimitDeep which at) new = UnitStops (λ unit. (which ≡ unit) × HasFault files unit (syntax.Deep at)) units files old new
 exec_told steps image units files input old (answer.Syntax which kind at) new = UnitStops (λ unit. (which ≡ unit) × HasFault files unit (fault_at kind at)) units files old new
+exec_told steps image units files input old (answer.Typing which broken at) new = UnitStops (λ unit. (which ≡ unit) × HasBroken files unit (row_at (rule_kind broken) at)) units files old new
+exec_told steps image units files input old (answer.LimitUnit which limit at) new = UnitStops (λ unit. (which ≡ unit) × HasBroken files unit (row_at (limit_kind limit) at)) units files old new
 exec_told steps image units files input old (answer.LimitForm which) new = UnitStops (λ unit. (which ≡ unit) × HasNoUnit files unit) units files old new
 exec_told steps image units files input old (answer.Doubled name file) new =
     AllPut (λ items. (unit : ℕ) × (source_fault items ≡ Some (source.Doubled unit name)) × (file ≡ file_name (map object_name units) unit)) units files old new

@@ -2,7 +2,6 @@
 ghost use Rattle.ccelf_build.specs.Laws.{Laws};
 
 use clight_parser::one_answer;
-use clight_syntax::text_has_one_form;
 use elf_file::{image_has_one_meaning, object_has_one_meaning};
 use second_code::{link_faults_are_source_faults, linked_units_load, linked_units_refine};
 
@@ -11,7 +10,6 @@ pub(crate) fn laws()
     ensures { Laws }
 {
     one_answer();
-    text_has_one_form();
     object_has_one_meaning();
     image_has_one_meaning();
     linked_units_refine();

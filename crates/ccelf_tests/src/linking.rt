@@ -3,6 +3,7 @@ ghost use Rattle.std.specs.Prelude.{◌≤◌, IfOk};
 ghost use Rattle.elf_file.specs.Image.{WellFormedImage};
 
 use cc_base::{Bytes, Calls, MemSink, MemSource};
+use clight_parser::parse;
 use elf_file::{
     ImageParts, ObjectParts, RelocParts, SymbolParts, read_image, read_object, write_image,
     write_object,
@@ -44,7 +45,8 @@ type Patch = (usize, usize, u8);
 fn compiled(alloc: Global, units: &[&str]) -> Result<Vec<Vec<u8>>, Fail> {
     let mut files = Vec::new(alloc);
     for unit in units {
-        files.push(unit_object(alloc, unit.as_bytes())?.ok_or("no unit")?)?;
+        let tree = parse(alloc, unit.as_bytes()).ok().ok_or("no tree")?;
+        files.push(unit_object(alloc, &tree)?.ok_or("no unit")?)?;
     }
     Ok(files)
 }

@@ -7,11 +7,10 @@ use Rattle.std.specs.Prelude.{Bool, false, ◌==◌, if◌then◌else◌}
 use Rattle.elf_file.specs.Image.{WellFormedImage, offset_of, image_end}
 use Rattle.elf_file.specs.declared.image.ImageParts.{ImageParts}
 use Rattle.elf_file.specs.declared.image.SegmentPart.{SegmentPart}
-use Rattle.second_code.specs.Objects.{IsObjectOf}
 use Rattle.commands.specs.declared.answer.Answer.{Answer}
 use Rattle.commands.specs.declared.answer.Answer.TheVariants as answer
 use Rattle.commands.specs.Doing.{Outside, outside, Step, Command, Then, Each}
-use Rattle.commands.specs.Steps.{Fetches, Stores, Put, CompilesTo, Links, LinkedFrom}
+use Rattle.commands.specs.Steps.{IsTextObject, Fetches, Stores, Put, CompilesTo, Links, LinkedFrom}
 
 -- what each step gives has a property
 abbrev value_of : {Y : Type 0} → List Y → Result (List Y) Answer → List Y
@@ -40,7 +39,7 @@ IsSmall file = length file < 2 ^ 32
 pub got_small : (name file : List ℕ) (old new : Outside) → Fetches name old (Ok file) new → IsSmall file
 got_small name file old new h = let s = h.0.short in omega (arith, s)
 
-object_small : (text file : List ℕ) → IsObjectOf text file → IsSmall file
+object_small : (text file : List ℕ) → IsTextObject text file → IsSmall file
 object_small text file o = let s = o.written.well_formed.small in let n = o.written.written.length_is in omega (arith, s, n)
 
 abbrev bytes_of : List ℕ → Result (List ℕ) Answer → List ℕ
@@ -56,7 +55,7 @@ pub made_small : (unit name file : List ℕ) (old new : Outside) → CompilesTo 
 made_small unit name file old new h =
     let a = h.goes_on in let b = a.goes_on in
     let same = kept_value file a.value b.goes_on.0 in
-    subst IsSmall same (object_small h.value a.value a.went.0.1)
+    subst IsSmall same (object_small h.value a.value a.went.0)
 
 -- steps that give files, which are linked; the image is put, and the rest goes on with its bytes
 abbrev pub Whole : {X : Type 0} → (X → Step (List ℕ)) → List X → List (List ℕ) → List ℕ → (List ℕ → Command) → Command

@@ -1,7 +1,7 @@
 -- The status of each answer.
 use Rattle.std.specs.Prelude.{ℕ}
 use Rattle.commands.specs.declared.answer.Answer.{Answer}
-use Rattle.commands.specs.declared.answer.Answer.TheVariants.{Words, Memory, Missing, ReadFault, WriteFault, LimitFile, LimitText, LimitDeep, Syntax, LimitForm, ObjectForm, Doubled, Unresolved, Sized, Range, ImageForm, ImageSegment, ImageEntry, ObjectStored, ImageStored, Shown, Ended, Spent, Stuck}
+use Rattle.commands.specs.declared.answer.Answer.TheVariants.{Words, Memory, Missing, ReadFault, WriteFault, LimitFile, LimitText, LimitDeep, Syntax, Typing, LimitUnit, LimitForm, ObjectForm, Doubled, Unresolved, Sized, Range, ImageForm, ImageSegment, ImageEntry, ObjectStored, ImageStored, Shown, Ended, Spent, Stuck}
 use Rattle.commands.specs.declared.answer.Status.{Status}
 use Rattle.commands.specs.declared.answer.Status.TheVariants as status
 
@@ -15,6 +15,8 @@ status_of (LimitFile name) = status.Limit
 status_of (LimitText name) = status.Limit
 status_of (LimitDeep file at) = status.Limit
 status_of (Syntax file kind at) = status.Syntax
+status_of (Typing file broken at) = status.Typing
+status_of (LimitUnit file limit at) = status.Limit
 status_of (LimitForm name) = status.Limit
 status_of (ObjectForm name) = status.Object
 status_of (Doubled name file) = status.Doubled
@@ -40,6 +42,7 @@ number_of status.Missing = 4
 number_of status.ReadFault = 5
 number_of status.WriteFault = 6
 number_of status.Syntax = 7
+number_of status.Typing = 8
 number_of status.Limit = 9
 number_of status.Object = 10
 number_of status.Doubled = 11

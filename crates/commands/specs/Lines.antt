@@ -5,8 +5,12 @@ use Rattle.i386_machine.specs.declared.event.Cause.{Cause}
 use Rattle.i386_machine.specs.declared.event.Cause.TheVariants as cause
 use Rattle.commands.specs.declared.answer.SyntaxKind.{SyntaxKind}
 use Rattle.commands.specs.declared.answer.SyntaxKind.TheVariants as kind
+use Rattle.commands.specs.declared.answer.TypingKind.{TypingKind}
+use Rattle.commands.specs.declared.answer.TypingKind.TheVariants as rule
+use Rattle.commands.specs.declared.answer.UnitLimit.{UnitLimit}
+use Rattle.commands.specs.declared.answer.UnitLimit.TheVariants as limit
 use Rattle.commands.specs.declared.answer.Answer.{Answer}
-use Rattle.commands.specs.declared.answer.Answer.TheVariants.{Words, Memory, Missing, ReadFault, WriteFault, LimitFile, LimitText, LimitDeep, Syntax, LimitForm, ObjectForm, Doubled, Unresolved, Sized, Range, ImageForm, ImageSegment, ImageEntry, ObjectStored, ImageStored, Shown, Ended, Spent, Stuck}
+use Rattle.commands.specs.declared.answer.Answer.TheVariants.{Words, Memory, Missing, ReadFault, WriteFault, LimitFile, LimitText, LimitDeep, Syntax, Typing, LimitUnit, LimitForm, ObjectForm, Doubled, Unresolved, Sized, Range, ImageForm, ImageSegment, ImageEntry, ObjectStored, ImageStored, Shown, Ended, Spent, Stuck}
 
 -- a byte of a symbol's name; one that is no visible character of ASCII shows as a question mark
 abbrev pub shown_byte : ℕ → ℕ
@@ -34,6 +38,23 @@ kind_words kind.Char = codes "char"
 kind_words kind.Literal = codes "literal"
 kind_words kind.Token = codes "token"
 
+-- which rule of the types is broken
+abbrev pub rule_words : TypingKind → List ℕ
+rule_words rule.Unknown = codes "unknown"
+rule_words rule.Twice = codes "twice"
+rule_words rule.Kind = codes "kind"
+rule_words rule.Count = codes "count"
+rule_words rule.NotPlace = codes "notplace"
+rule_words rule.Reserved = codes "reserved"
+rule_words rule.MainShape = codes "main"
+rule_words rule.Initialiser = codes "initialiser"
+
+-- which limit a unit passes
+abbrev pub limit_words : UnitLimit → List ℕ
+limit_words limit.Size = codes "size"
+limit_words limit.Params = codes "params"
+limit_words limit.Nodes = codes "nodes"
+
 -- the words of an answer, or nothing where there is no line
 abbrev pub words_of : Answer → List ℕ
 words_of Words = codes "words"
@@ -45,6 +66,8 @@ words_of (LimitFile name) = name ++ codes ": limit file"
 words_of (LimitText name) = name ++ codes ": limit text"
 words_of (LimitDeep file at) = file ++ codes ": limit deep " ++ decimal at
 words_of (Syntax file kind at) = file ++ codes ": syntax " ++ kind_words kind ++ codes " " ++ decimal at
+words_of (Typing file broken at) = file ++ codes ": typing " ++ rule_words broken ++ codes " " ++ decimal at
+words_of (LimitUnit file limit at) = file ++ codes ": limit " ++ limit_words limit ++ codes " " ++ decimal at
 words_of (LimitForm name) = name ++ codes ": limit form"
 words_of (ObjectForm name) = name ++ codes ": object form"
 words_of (Doubled name file) = codes "doubled " ++ shown name ++ codes " " ++ file

@@ -10,10 +10,15 @@ use Rattle.cc_base.specs.declared.run.Outcome.TheVariants as outcome
 use Rattle.clight_text.specs.declared.tree.External.{External}
 use Rattle.clight_text.specs.declared.fault.SyntaxFault.{SyntaxFault}
 use Rattle.clight_text.specs.declared.fault.SyntaxFault.TheVariants as syntax
+use Rattle.clight_faults.specs.declared.fault.Row.{Row}
+use Rattle.clight_faults.specs.declared.fault.TypeKind.{TypeKind}
+use Rattle.clight_faults.specs.declared.fault.TypeKind.TheVariants as row
+use Rattle.clight_unit.specs.declared.unit.Unit.{Unit as TypedUnit}
+use Rattle.clight_typing.specs.Typing.{Typed, fault_of}
 use Rattle.clight_parser.specs.Parsing.{HasTree, HasAnswer}
-use Rattle.clight_syntax.specs.SecondForm.{IsSecondForm}
-use Rattle.clight_syntax.specs.declared.second_items.Item.{Item}
-use Rattle.second_code.specs.Objects.{IsObjectOf}
+use Rattle.second_form.specs.SecondForm.{IsSecondForm}
+use Rattle.second_form.specs.declared.second_items.Item.{Item}
+use Rattle.second_code.specs.Parts.{parts_of}
 use Rattle.elf_file.specs.Object.{Object, object_of, symbol_of}
 use Rattle.elf_file.specs.Read.{IsFileOf}
 use Rattle.elf_file.specs.Image.{IsImageOf}
@@ -30,6 +35,10 @@ use Rattle.i386_machine.specs.declared.event.Standing.TheVariants as standing
 use Rattle.i386_machine.specs.Runs.{after}
 use Rattle.commands.specs.declared.answer.SyntaxKind.{SyntaxKind}
 use Rattle.commands.specs.declared.answer.SyntaxKind.TheVariants as kind
+use Rattle.commands.specs.declared.answer.TypingKind.{TypingKind}
+use Rattle.commands.specs.declared.answer.TypingKind.TheVariants as rule
+use Rattle.commands.specs.declared.answer.UnitLimit.{UnitLimit}
+use Rattle.commands.specs.declared.answer.UnitLimit.TheVariants as limit
 use Rattle.commands.specs.declared.answer.Answer.{Answer}
 use Rattle.commands.specs.declared.answer.Answer.TheVariants as answer
 use Rattle.commands.specs.Doing.{Outside, Step, Command, AndThen}
@@ -81,18 +90,71 @@ Parsed name text (Err _) = ⊥
 abbrev pub Parses : List ℕ → List ℕ → Step (List External)
 Parses name text old result new = Parsed name text result × (new ≡ old)
 
--- no items are those of the text
-abbrev pub IsNoUnit : List ℕ → Type 0
-IsNoUnit text = (items : List Item) → ¬ IsSecondForm text items
+-- a rule of the types, and a limit of a unit
+abbrev pub rule_kind : TypingKind → TypeKind
+rule_kind rule.Unknown = row.Unknown
+rule_kind rule.Twice = row.Twice
+rule_kind rule.Kind = row.Kind
+rule_kind rule.Count = row.Count
+rule_kind rule.NotPlace = row.NotPlace
+rule_kind rule.Reserved = row.Reserved
+rule_kind rule.MainShape = row.MainShape
+rule_kind rule.Initialiser = row.Initialiser
+
+abbrev pub limit_kind : UnitLimit → TypeKind
+limit_kind limit.Size = row.Size
+limit_kind limit.Params = row.Params
+limit_kind limit.Nodes = row.Nodes
+
+abbrev pub row_at : TypeKind → ℕ → Row
+row_at kind at = record { kind = kind; at = at }
+
+-- the tree has this typed unit; else the answer says which rule it breaks first
+abbrev pub HasTypes : List ℕ → List External → Result TypedUnit Answer → Type 0
+HasTypes name tree (Ok unit) = Typed tree unit
+HasTypes name tree (Err (answer.Typing which broken at)) = (fault_of tree ≡ Some (row_at (rule_kind broken) at)) × (which ≡ name)
+HasTypes name tree (Err (answer.LimitUnit which limit at)) = (fault_of tree ≡ Some (row_at (limit_kind limit) at)) × (which ≡ name)
+HasTypes name tree (Err answer.Memory) = Unit {0}
+HasTypes name tree (Err _) = ⊥
 
 -- the text is a unit's text within the limits
 abbrev pub IsText : List ℕ → Type 0
 IsText text = (tree : List External) × HasTree text tree
 
--- the text is a unit's text, it is of the form, and the bytes are its object; else the answer says so
+-- the text is a unit's text, and this is the rule of the types that it breaks first
+pub record BreaksRule (text : List ℕ) (broken : Row) : Type 0 where
+  pub tree : List External
+  pub parsed : HasTree text tree
+  pub told : fault_of tree ≡ Some broken
+
+-- the text is a unit's text with a typed unit, and its tree is of the form, with these items
+pub record HasForm (text : List ℕ) (items : List Item) : Type 0 where
+  pub tree : List External
+  pub parsed : HasTree text tree
+  pub unit : TypedUnit
+  pub typed : Typed tree unit
+  pub form : IsSecondForm tree items
+
+-- the text is a unit's text with a typed unit, and its tree is not of the form
+pub record LacksForm (text : List ℕ) : Type 0 where
+  pub tree : List External
+  pub parsed : HasTree text tree
+  pub unit : TypedUnit
+  pub typed : Typed tree unit
+  pub none : (items : List Item) → ¬ IsSecondForm tree items
+
+-- the bytes are the one file that is written for the text's items. No other text has a part in it
+pub record IsTextObject (text object : List ℕ) : Type 0 where
+  pub items : List Item
+  pub form : HasForm text items
+  pub written : IsFileOf (parts_of items) object
+
+-- the text is a unit's text with a typed unit, its tree is of the form, and the bytes are its object; else the answer says so
 abbrev pub Compiled : List ℕ → List ℕ → Result (List ℕ) Answer → Type 0
-Compiled name text (Ok object) = IsText text × IsObjectOf text object
-Compiled name text (Err (answer.LimitForm which)) = IsText text × IsNoUnit text × (which ≡ name)
+Compiled name text (Ok object) = IsTextObject text object
+Compiled name text (Err (answer.Typing which broken at)) = BreaksRule text (row_at (rule_kind broken) at) × (which ≡ name)
+Compiled name text (Err (answer.LimitUnit which limit at)) = BreaksRule text (row_at (limit_kind limit) at) × (which ≡ name)
+Compiled name text (Err (answer.LimitForm which)) = LacksForm text × (which ≡ name)
 Compiled name text (Err told) = Parsed name text (Err told)
 
 abbrev pub Compiles : List ℕ → List ℕ → Step (List ℕ)

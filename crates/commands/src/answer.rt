@@ -22,6 +22,8 @@ pub enum Status {
     WriteFault,
     /// A text is not a unit's text.
     Syntax,
+    /// A unit breaks a rule of the types.
+    Typing,
     /// A file or a text passes a limit.
     Limit,
     /// A file is no object.
@@ -55,6 +57,7 @@ impl Status {
             Status::ReadFault => 5,
             Status::WriteFault => 6,
             Status::Syntax => 7,
+            Status::Typing => 8,
             Status::Limit => 9,
             Status::Object => 10,
             Status::Doubled => 11,
@@ -79,6 +82,38 @@ pub enum SyntaxKind {
     Token,
 }
 
+/// Which rule of the types a unit breaks.
+#[derive(Clone, Copy, Debug, PartialEq, Eq)]
+pub enum TypingKind {
+    /// A name or a member is not declared before, or a size that is needed is not known.
+    Unknown,
+    /// A name is declared twice.
+    Twice,
+    /// A type does not fit.
+    Kind,
+    /// A call has another number of arguments than the function has parameters.
+    Count,
+    /// What is assigned to is no place, or `&` stands before what has no address.
+    NotPlace,
+    /// A name of the runtime is declared.
+    Reserved,
+    /// `main` is not `int main(void)`.
+    MainShape,
+    /// An initialiser is no constant or does not fit.
+    Initialiser,
+}
+
+/// Which limit a unit passes.
+#[derive(Clone, Copy, Debug, PartialEq, Eq)]
+pub enum UnitLimit {
+    /// Of the size of an object or of objects together.
+    Size,
+    /// Of the number of a function's parameters.
+    Params,
+    /// Of the number of the unit's nodes.
+    Nodes,
+}
+
 /// All that a command has to tell: its status, and the names and numbers of its line.
 #[derive(Drop)]
 pub enum Answer {
@@ -101,6 +136,18 @@ pub enum Answer {
     Syntax {
         file: Name,
         kind: SyntaxKind,
+        at: u32,
+    },
+    /// The unit in this file breaks a rule of the types at this place, counted in bytes from 0.
+    Typing {
+        file: Name,
+        kind: TypingKind,
+        at: u32,
+    },
+    /// The unit in this file passes a limit at this place, counted in bytes from 0.
+    LimitUnit {
+        file: Name,
+        limit: UnitLimit,
         at: u32,
     },
     /// The text of this name is not of the form that is compiled.
@@ -166,6 +213,8 @@ impl Answer {
             Answer::LimitText(_) => Status::Limit,
             Answer::LimitDeep { .. } => Status::Limit,
             Answer::Syntax { .. } => Status::Syntax,
+            Answer::Typing { .. } => Status::Typing,
+            Answer::LimitUnit { .. } => Status::Limit,
             Answer::LimitForm(_) => Status::Limit,
             Answer::ObjectForm(_) => Status::Object,
             Answer::Doubled { .. } => Status::Doubled,

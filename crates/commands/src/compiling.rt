@@ -3,14 +3,17 @@ ghost use Rattle.std.specs.Prelude.{◌≡◌, List, ℕ, map};
 ghost use Rattle.cc_base.specs.Seen.{SourceSeen, SinkSeen};
 ghost use Rattle.command_words.specs.Commands.{object_name};
 ghost use Rattle.command_words.specs.Orders.{texts};
+ghost use Rattle.commands.specs.declared.answer.Answer.TheVariants.{LimitUnit as SomeLimit};
 ghost use Rattle.commands.specs.Doing.{outside, Each};
-ghost use Rattle.commands.specs.Steps.{Parsed, Compiled, CompilesTo};
+ghost use Rattle.commands.specs.Steps.{Parsed, HasTypes, Compiled, CompilesTo};
 
-use crate::answer::{Answer, SyntaxKind};
+use crate::answer::{Answer, SyntaxKind, TypingKind, UnitLimit};
 use crate::files::{Contents, fetch, keep, store};
 use cc_base::{Bytes, Files, Name};
 use clight_parser::parse;
 use clight_text::{SyntaxFault, Tree};
+use clight_typing::{TypeFault, TypeKind, check};
+use clight_unit::Unit;
 use second_code::unit_object;
 use std::alloc::Global;
 
@@ -33,12 +36,51 @@ pub(crate) fn parse_text(alloc: Global, name: &str, text: &[u8]) -> Result<Tree,
     Err(Answer::Syntax { file, kind, at })
 }
 
+// The typed unit of a tree in the file of this name. The name is copied first: after a refusal there may be no memory for it.
+fn check_tree(alloc: Global, name: &str, tree: &Tree) -> Result<Unit, Answer>
+    ensures { HasTypes name.now tree.now result }
+{
+    let Ok(file) = Name::from_slice(alloc, name.as_bytes()) else {
+        return Err(Answer::Memory);
+    };
+    let (kind, at) = match check(alloc, tree) {
+        Ok(unit) => return Ok(unit),
+        Err(TypeFault::Memory) => return Err(Answer::Memory),
+        Err(TypeFault::Rule { kind, at }) => (kind, at),
+    };
+    let told = match kind {
+        TypeKind::Unknown => TypingKind::Unknown,
+        TypeKind::Twice => TypingKind::Twice,
+        TypeKind::Kind => TypingKind::Kind,
+        TypeKind::Count => TypingKind::Count,
+        TypeKind::NotPlace => TypingKind::NotPlace,
+        TypeKind::Reserved => TypingKind::Reserved,
+        TypeKind::MainShape => TypingKind::MainShape,
+        TypeKind::Initialiser => TypingKind::Initialiser,
+        TypeKind::Size => return Err(limit_told(file, UnitLimit::Size, at)),
+        TypeKind::Params => return Err(limit_told(file, UnitLimit::Params, at)),
+        TypeKind::Nodes => return Err(limit_told(file, UnitLimit::Nodes, at)),
+    };
+    Err(Answer::Typing {
+        file,
+        kind: told,
+        at,
+    })
+}
+
+fn limit_told(file: Name, limit: UnitLimit, at: u32) -> Answer
+    ensures { result ≡ SomeLimit file limit at }
+{
+    Answer::LimitUnit { file, limit, at }
+}
+
 // The object of a text, which has this name. No other text has a part in it.
 fn compile(alloc: Global, name: &str, text: &[u8]) -> Result<Bytes, Answer>
     ensures { Compiled name.now text.now result }
 {
-    parse_text(alloc, name, text)?;
-    let Ok(object) = unit_object(alloc, text) else {
+    let tree = parse_text(alloc, name, text)?;
+    check_tree(alloc, name, &tree)?;
+    let Ok(object) = unit_object(alloc, &tree) else {
         return Err(Answer::Memory);
     };
     if let Some(object) = object {

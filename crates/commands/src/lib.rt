@@ -13,7 +13,7 @@ mod running;
 mod showing;
 mod words;
 
-pub use answer::{Answer, Status, SyntaxKind};
+pub use answer::{Answer, Status, SyntaxKind, TypingKind, UnitLimit};
 pub use giving::give_all;
 pub use performing::{compile, exec, link, perform, run};
 pub use showing::show;

@@ -2,9 +2,9 @@
 ghost use Rattle.std.specs.Prelude.{◌≡◌, ◌≢◌, [], ◌++◌, codes, decimal, OnOk, OnErr, IfOk};
 ghost use Rattle.commands.specs.Answers.{status_of};
 ghost use Rattle.commands.specs.declared.answer.Status.{Status};
-ghost use Rattle.commands.specs.Lines.{shown, address, cause_words, kind_words, words_of, ended, line_of};
+ghost use Rattle.commands.specs.Lines.{shown, address, cause_words, kind_words, rule_words, limit_words, words_of, ended, line_of};
 
-use crate::answer::{Answer, SyntaxKind};
+use crate::answer::{Answer, SyntaxKind, TypingKind, UnitLimit};
 use cc_base::{Text, hex_text, word_text};
 use i386_machine::Cause;
 use std::alloc::{AllocError, Global};
@@ -62,6 +62,33 @@ fn put_kind(line: &mut Text, kind: SyntaxKind) -> Result<(), AllocError>
     }
 }
 
+// Appends the word for the rule of the types that a unit breaks.
+fn put_rule(line: &mut Text, kind: TypingKind) -> Result<(), AllocError>
+    ensures { OnOk result (line.new ≡ line.old ++ rule_words kind) }
+{
+    match kind {
+        TypingKind::Unknown => line.extend(b"unknown"),
+        TypingKind::Twice => line.extend(b"twice"),
+        TypingKind::Kind => line.extend(b"kind"),
+        TypingKind::Count => line.extend(b"count"),
+        TypingKind::NotPlace => line.extend(b"notplace"),
+        TypingKind::Reserved => line.extend(b"reserved"),
+        TypingKind::MainShape => line.extend(b"main"),
+        TypingKind::Initialiser => line.extend(b"initialiser"),
+    }
+}
+
+// Appends the word for the limit that a unit passes.
+fn put_limit(line: &mut Text, limit: UnitLimit) -> Result<(), AllocError>
+    ensures { OnOk result (line.new ≡ line.old ++ limit_words limit) }
+{
+    match limit {
+        UnitLimit::Size => line.extend(b"size"),
+        UnitLimit::Params => line.extend(b"params"),
+        UnitLimit::Nodes => line.extend(b"nodes"),
+    }
+}
+
 // Appends a name and the file of the object that it is told of.
 fn put_name(line: &mut Text, name: &[u8], file: &[u8]) -> Result<(), AllocError>
     ensures { OnOk result (line.new ≡ line.old ++ (shown name.now ++ codes " " ++ file.now)) }
@@ -108,6 +135,16 @@ fn put_words(line: &mut Text, answer: &Answer) -> Result<(), AllocError>
         Answer::Syntax { file, kind, at } => {
             put_named(line, b"", file.as_slice(), b": syntax ")?;
             put_kind(line, *kind)?;
+            put_count(line, b" ", u64::from(*at))
+        }
+        Answer::Typing { file, kind, at } => {
+            put_named(line, b"", file.as_slice(), b": typing ")?;
+            put_rule(line, *kind)?;
+            put_count(line, b" ", u64::from(*at))
+        }
+        Answer::LimitUnit { file, limit, at } => {
+            put_named(line, b"", file.as_slice(), b": limit ")?;
+            put_limit(line, *limit)?;
             put_count(line, b" ", u64::from(*at))
         }
         Answer::LimitForm(name) => put_named(line, b"", name.as_slice(), b": limit form"),

@@ -110,7 +110,7 @@ fn units_run(rt: HostRuntime) -> Result<(), Fail> {
 #[test]
 fn texts_are_parsed(rt: HostRuntime) -> Result<(), Fail> {
     let alloc = rt.alloc();
-    let rows: [(&[u8], &str, Status, &str, &[u8]); 9] = [
+    let rows: [(&[u8], &str, Status, &str, &[u8]); 12] = [
         (
             b"int main(){return 7;}",
             "show t.c",
@@ -159,6 +159,27 @@ fn texts_are_parsed(rt: HostRuntime) -> Result<(), Fail> {
             "compile t.c t.o",
             Status::Limit,
             "t.c: limit form\n",
+            b"",
+        ),
+        (
+            b"int main(void) { return x; }",
+            "compile t.c t.o",
+            Status::Typing,
+            "t.c: typing unknown 24\n",
+            b"",
+        ),
+        (
+            b"int main(void) { return x; }",
+            "show t.c",
+            Status::Done,
+            "",
+            b"int main ( void ) { return x ; }\n",
+        ),
+        (
+            b"extern char t[8388609];",
+            "exec 9 out t.c",
+            Status::Limit,
+            "t.c: limit size 12\n",
             b"",
         ),
         (b"int", "show u.c", Status::Missing, "missing u.c\n", b""),

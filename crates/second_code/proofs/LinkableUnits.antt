@@ -11,14 +11,14 @@ use Rattle.std.proofs.lemmas.List.Elements.{All-head, All-tail, filter_passes}
 use Rattle.std.proofs.lemmas.List.Folds.{list_any_at}
 use Rattle.std.proofs.lemmas.Slice.Eq.{bytes_eq-Decides}
 use Rattle.cc_base.specs.Faces.{first_answer}
-use Rattle.clight_syntax.specs.declared.second_items.SmallStmt.{SmallStmt}
-use Rattle.clight_syntax.specs.declared.second_items.SmallStmt.TheVariants.{Put, Call, Return}
-use Rattle.clight_syntax.specs.declared.second_items.Item.{Item}
-use Rattle.clight_syntax.specs.SecondForm.{reserved_words, IsItem, IsBodyIfAny, CallsName}
-use Rattle.clight_syntax.specs.SecondFaults.{is_call_of, has_call_of, is_shown, is_wanted, shown_names, wanted_names, SourceFault, Doubled, Unresolved, fault_or, doubled_or, unresolved, Linkable}
+use Rattle.second_form.specs.declared.second_items.SmallStmt.{SmallStmt}
+use Rattle.second_form.specs.declared.second_items.SmallStmt.TheVariants.{Put, Call, Return}
+use Rattle.second_form.specs.declared.second_items.Item.{Item}
+use Rattle.second_form.specs.SecondForm.{reserved_words, IsItem, IsBodyIfAny, CallsName}
+use Rattle.second_form.specs.SecondFaults.{is_call_of, has_call_of, is_shown, is_wanted, shown_names, wanted_names, SourceFault, Doubled, Unresolved, fault_or, doubled_or, unresolved, Linkable}
 use Rattle.cc_base.specs.declared.run.Outcome.TheVariants.{Wrong}
-use Rattle.clight_syntax.specs.SecondLinks.{never_wrong}
-use Rattle.clight_syntax.specs.SecondRun.{own, shown, second_after}
+use Rattle.second_form.specs.SecondLinks.{never_wrong}
+use Rattle.second_form.specs.SecondRun.{own, shown, second_after}
 use Rattle.elf_file.specs.Object.{Object, object_of, no_symbol}
 use Rattle.elf_file.specs.declared.parts.SymbolPart.{SymbolPart}
 use Rattle.elf_linker.specs.declared.fault.LinkFault.{LinkFault}

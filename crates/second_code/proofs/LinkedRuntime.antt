@@ -3,7 +3,7 @@ use Rattle.std.specs.Prelude.{◌≡◌, ◌⊎◌, ℕ, ◌+◌, ◌-◌, ◌%�
 use Rattle.std.proofs.Common.{arith, ◌∙◌, ap, sym, refl, subst, inl}
 use Rattle.std.proofs.lemmas.List.Elements.{All-cons}
 use Rattle.cc_base.specs.Words.{word_bytes}
-use Rattle.clight_syntax.specs.declared.second_items.Item.{Item}
+use Rattle.second_form.specs.declared.second_items.Item.{Item}
 use Rattle.elf_file.specs.Object.{Object, object_of, symbol_of}
 use Rattle.elf_file.specs.declared.parts.RelocPart.{RelocPart}
 use Rattle.elf_file.specs.declared.parts.RelocKind.TheVariants.{Rel}

@@ -5,10 +5,10 @@ use Rattle.std.proofs.Common.{arith, ◌∙◌, ap, sym, refl, subst, length-app
 use Rattle.std.proofs.lemmas.Option.{none-some, same_Some}
 use Rattle.std.proofs.lemmas.Slice.Eq.{bytes_eq-Decides}
 use Rattle.std.proofs.lemmas.List.Elements.{All-head, All-tail}
-use Rattle.clight_syntax.specs.declared.second_items.SmallStmt.{SmallStmt}
-use Rattle.clight_syntax.specs.declared.second_items.SmallStmt.TheVariants.{Put, Call, Return}
-use Rattle.clight_syntax.specs.declared.second_items.Item.{Item}
-use Rattle.clight_syntax.specs.SecondForm.{Fits, IsBody, IsBodyIfAny, IsItem, StaticAlike, IsAt}
+use Rattle.second_form.specs.declared.second_items.SmallStmt.{SmallStmt}
+use Rattle.second_form.specs.declared.second_items.SmallStmt.TheVariants.{Put, Call, Return}
+use Rattle.second_form.specs.declared.second_items.Item.{Item}
+use Rattle.second_form.specs.SecondForm.{Fits, IsBody, IsBodyIfAny, IsItem, StaticAlike, IsAt}
 use Rattle.second_code.specs.Parts.{body_of, text_of}
 use Rattle.cc_base.specs.Words.{add32}
 use Rattle.i386_machine.specs.Runs.{seen_of}
@@ -21,7 +21,7 @@ use Rattle.second_code.specs.Code.{Places, body_code, call_code}
 use Rattle.second_code.specs.LinkedUnits.{unit_at, IsAddressOf, LinkedUnits}
 use Rattle.second_code.proofs.SecondRefines.{NumbersFit, Good, CodeAt, second_refines}
 use Rattle.second_code.proofs.Placing.{Stands, placed_there, on-here}
-use Rattle.clight_syntax.specs.SecondRun.{Meaning, own, shown, body_or, meaning_or, shown_by, means, second_after}
+use Rattle.second_form.specs.SecondRun.{Meaning, own, shown, body_or, meaning_or, shown_by, means, second_after}
 
 -- a definition that a unit shows is one of an item that is not static
 pub record Shows (items : List Item) (name : List ℕ) : Type 0 where

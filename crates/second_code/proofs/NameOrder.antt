@@ -9,11 +9,11 @@ use Rattle.std.proofs.lemmas.List.Elements.{All-cons, filter_passes}
 use Rattle.std.proofs.lemmas.List.Folds.{find-append}
 use Rattle.std.proofs.lemmas.Slice.Eq.{bytes_eq-Decides}
 use Rattle.indexmap.specs.IndexSet.{insert_all, insert_key}
-use Rattle.clight_syntax.specs.declared.second_items.SmallStmt.{SmallStmt}
-use Rattle.clight_syntax.specs.declared.second_items.SmallStmt.TheVariants.{Put, Call, Return}
-use Rattle.clight_syntax.specs.declared.second_items.Item.{Item}
-use Rattle.clight_syntax.specs.SecondForm.{IsAt, HasCall, CallsAreDeclared, DeclaredBy}
-use Rattle.clight_syntax.specs.SecondFaults.{names_of}
+use Rattle.second_form.specs.declared.second_items.SmallStmt.{SmallStmt}
+use Rattle.second_form.specs.declared.second_items.SmallStmt.TheVariants.{Put, Call, Return}
+use Rattle.second_form.specs.declared.second_items.Item.{Item}
+use Rattle.second_form.specs.SecondForm.{IsAt, HasCall, CallsAreDeclared, DeclaredBy}
+use Rattle.second_form.specs.SecondFaults.{names_of}
 use Rattle.second_code.specs.Parts as Parts
 use Rattle.second_code.proofs.OneDefinition.{order}
 use Rattle.second_code.proofs.Tests.{one_of, find_none}

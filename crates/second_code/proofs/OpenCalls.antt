@@ -4,9 +4,9 @@ use Rattle.std.proofs.Common.{arith, ◌∙◌, ap, sym, refl, subst, append_ass
 use Rattle.std.proofs.lemmas.List.{get_or-append-add}
 use Rattle.std.proofs.lemmas.List.Elements.{All-append, All-cons}
 use Rattle.cc_base.specs.Words.{join}
-use Rattle.clight_syntax.specs.declared.second_items.SmallStmt.{SmallStmt}
-use Rattle.clight_syntax.specs.declared.second_items.SmallStmt.TheVariants.{Put, Call, Return}
-use Rattle.clight_syntax.specs.declared.second_items.Item.{Item}
+use Rattle.second_form.specs.declared.second_items.SmallStmt.{SmallStmt}
+use Rattle.second_form.specs.declared.second_items.SmallStmt.TheVariants.{Put, Call, Return}
+use Rattle.second_form.specs.declared.second_items.Item.{Item}
 use Rattle.elf_file.specs.Places.{word_at}
 use Rattle.second_code.specs.Parts.{Use, open_statement, open_body, body_size, body_of, text_of, uses_from, unit_uses_from}
 use Rattle.second_code.proofs.PartLemmas.{body_len}

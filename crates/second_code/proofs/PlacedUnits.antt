@@ -6,8 +6,8 @@ use Rattle.std.proofs.Math.Seq.{get_or-append_seam}
 use Rattle.std.proofs.lemmas.List.{length-map, get_or-map}
 use Rattle.std.proofs.lemmas.List.Elements.{All-map}
 use Rattle.cc_base.specs.Words.{word_bytes, add32, sub32}
-use Rattle.clight_syntax.specs.declared.second_items.Item.{Item}
-use Rattle.clight_syntax.specs.SecondForm.{IsItem}
+use Rattle.second_form.specs.declared.second_items.Item.{Item}
+use Rattle.second_form.specs.SecondForm.{IsItem}
 use Rattle.elf_file.specs.Places.{word_at}
 use Rattle.elf_file.specs.Object.{Object, object_of, symbol_of, no_symbol}
 use Rattle.elf_file.specs.declared.parts.RelocPart.{RelocPart}

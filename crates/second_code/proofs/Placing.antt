@@ -8,10 +8,10 @@ use Rattle.std.proofs.lemmas.List.{length-drop, length-take, drop-drop, get_or-t
 use Rattle.std.proofs.lemmas.List.Elements.{All-append, All-cons}
 use Rattle.std.proofs.lemmas.Grind.{same_number_lists}
 use Rattle.cc_base.specs.Words.{word_bytes, sub32}
-use Rattle.clight_syntax.specs.declared.second_items.SmallStmt.{SmallStmt}
-use Rattle.clight_syntax.specs.declared.second_items.SmallStmt.TheVariants.{Put, Call, Return}
-use Rattle.clight_syntax.specs.declared.second_items.Item.{Item}
-use Rattle.clight_syntax.specs.SecondRun.{own, body_or}
+use Rattle.second_form.specs.declared.second_items.SmallStmt.{SmallStmt}
+use Rattle.second_form.specs.declared.second_items.SmallStmt.TheVariants.{Put, Call, Return}
+use Rattle.second_form.specs.declared.second_items.Item.{Item}
+use Rattle.second_form.specs.SecondRun.{own, body_or}
 use Rattle.machine_steps.specs.StackAndCode.{Here}
 use Rattle.second_code.specs.Code.{Places, statement_size, statement_code, body_code, call_code}
 use Rattle.second_code.specs.Parts.{Use, open_call, open_statement, open_body, body_size, body_of, text_of, uses_from, unit_uses_from, definition_or, definition_from}

@@ -7,9 +7,9 @@ use Rattle.std.proofs.Math.Seq.{get_or-append_seam}
 use Rattle.std.proofs.lemmas.List.Elements.{All-head, All-tail, All-map}
 use Rattle.std.proofs.lemmas.List.Folds.{list_any-append}
 use Rattle.cc_base.specs.Faces.{first_answer}
-use Rattle.clight_syntax.specs.declared.second_items.Item.{Item}
-use Rattle.clight_syntax.specs.SecondForm.{reserved_words}
-use Rattle.clight_syntax.specs.SecondFaults.{is_shown, shown_names, wanted_names, SourceFault, Doubled, Unresolved, fault_or, doubled_or, unresolved, source_fault}
+use Rattle.second_form.specs.declared.second_items.Item.{Item}
+use Rattle.second_form.specs.SecondForm.{reserved_words}
+use Rattle.second_form.specs.SecondFaults.{is_shown, shown_names, wanted_names, SourceFault, Doubled, Unresolved, fault_or, doubled_or, unresolved, source_fault}
 use Rattle.elf_file.specs.Object.{Object, object_of, symbol_of}
 use Rattle.elf_file.specs.declared.parts.SymbolPart.{SymbolPart}
 use Rattle.elf_linker.specs.declared.fault.LinkFault.{LinkFault}
@@ -73,9 +73,9 @@ module _ (units : List (List Item)) (are : All IsUnit units) where
       λ name c. ap (λ (os : List Object). list_any (defines name) (all_symbols os)) all ∙ units_define units name are ∙ shows_free units name are c in
       let free : (name : List ℕ) (place : ℕ) → Contains reserved_words name → list_any (defines name) (take place symbols) ≡ false → defined_before objects number symbols place name ≡ false =
       λ name place c f. list_any-append (defines name) (all_symbols (take number objects)) (take place symbols) ∙ (λ i. earlier name c i || f i) in
-      let one = free (codes "_start") 1 (36, omega arith, refl) refl in
-      let two = free (codes "getbyte") 3 (34, omega arith, refl) refl in
-      let three = free (codes "putbyte") 4 (35, omega arith, refl) refl in
+      let one = free (codes "_start") 1 (2, omega arith, refl) refl in
+      let two = free (codes "getbyte") 3 (0, omega arith, refl) refl in
+      let three = free (codes "putbyte") 4 (1, omega arith, refl) refl in
       λ i. option_or (cond (one i) (Some (linking.Doubled number 1)) None) (option_or (cond (two i) (Some (linking.Doubled number 3)) None) (option_or (cond (three i) (Some (linking.Doubled number 4)) None) None))
 
   -- all doubled definitions, and then what else there is

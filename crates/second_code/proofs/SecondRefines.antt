@@ -7,11 +7,11 @@ use Rattle.cc_base.specs.declared.run.Act.{Act}
 use Rattle.cc_base.specs.declared.run.Act.TheVariants.{Gave}
 use Rattle.cc_base.specs.declared.run.Outcome.TheVariants as outcome
 use Rattle.cc_base.specs.Runs.{State, IsPrefix}
-use Rattle.clight_syntax.specs.declared.second_items.SmallStmt.{SmallStmt}
-use Rattle.clight_syntax.specs.declared.second_items.SmallStmt.TheVariants.{Put, Call, Return}
-use Rattle.clight_syntax.specs.declared.second_items.Item.{Item}
-use Rattle.clight_syntax.specs.SecondForm.{EndsReturning}
-use Rattle.clight_syntax.specs.SecondRun as second
+use Rattle.second_form.specs.declared.second_items.SmallStmt.{SmallStmt}
+use Rattle.second_form.specs.declared.second_items.SmallStmt.TheVariants.{Put, Call, Return}
+use Rattle.second_form.specs.declared.second_items.Item.{Item}
+use Rattle.second_form.specs.SecondForm.{EndsReturning}
+use Rattle.second_form.specs.SecondRun as second
 use Rattle.i386_machine.specs.declared.event.Standing.{Standing}
 use Rattle.i386_machine.specs.Runs.{Run, seen_of, outcome_of}
 use Rattle.i386_machine.specs.Runs.{after as machine_after}

@@ -7,11 +7,11 @@ use Rattle.std.proofs.lemmas.Option.{none-some, same_Some}
 use Rattle.std.proofs.lemmas.List.{length-map}
 use Rattle.std.proofs.lemmas.List.Folds.{list_any-append}
 use Rattle.std.proofs.lemmas.Slice.Eq.{bytes_eq-Decides}
-use Rattle.clight_syntax.specs.declared.second_items.SmallStmt.{SmallStmt}
-use Rattle.clight_syntax.specs.declared.second_items.Item.{Item}
-use Rattle.clight_syntax.specs.SecondForm.{reserved_words}
-use Rattle.clight_syntax.specs.SecondFaults.{is_shown}
-use Rattle.clight_syntax.specs.SecondRun.{shown, body_or}
+use Rattle.second_form.specs.declared.second_items.SmallStmt.{SmallStmt}
+use Rattle.second_form.specs.declared.second_items.Item.{Item}
+use Rattle.second_form.specs.SecondForm.{reserved_words}
+use Rattle.second_form.specs.SecondFaults.{is_shown}
+use Rattle.second_form.specs.SecondRun.{shown, body_or}
 use Rattle.elf_file.specs.Object.{Object, object_of, symbol_of, no_symbol}
 use Rattle.elf_file.specs.declared.parts.SymbolPart.{SymbolPart}
 use Rattle.elf_linker.specs.Placement.{text_address}
@@ -71,11 +71,11 @@ table_shows items (first ∷ names) name t =
 runtime_reserved : (name : List ℕ) → list_any (defines name) (object_of runtime).symbols ≡ true → Contains reserved_words name
 runtime_reserved name t =
     elim (one_of (bytes_eq (codes "_start") name) (bytes_eq (codes "getbyte") name || (bytes_eq (codes "putbyte") name || false)) t) [
-      | inl a ↦ reserved (codes "_start") a (36, omega arith, refl)
+      | inl a ↦ reserved (codes "_start") a (2, omega arith, refl)
       | inr t ↦
           elim (one_of (bytes_eq (codes "getbyte") name) (bytes_eq (codes "putbyte") name || false) t) [
-            | inl b ↦ reserved (codes "getbyte") b (34, omega arith, refl)
-            | inr t ↦ elim (one_of (bytes_eq (codes "putbyte") name) false t) [ inl c ↦ reserved (codes "putbyte") c (35, omega arith, refl) | inr f ↦ let clash : false ≡ true = f in cc ]
+            | inl b ↦ reserved (codes "getbyte") b (0, omega arith, refl)
+            | inr t ↦ elim (one_of (bytes_eq (codes "putbyte") name) false t) [ inl c ↦ reserved (codes "putbyte") c (1, omega arith, refl) | inr f ↦ let clash : false ≡ true = f in cc ]
           ]
     ]
   where

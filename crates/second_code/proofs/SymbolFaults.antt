@@ -7,12 +7,12 @@ use Rattle.std.proofs.lemmas.Option.{none-some}
 use Rattle.std.proofs.lemmas.List.{length-map}
 use Rattle.std.proofs.lemmas.List.Folds.{list_any_at, list_any-append}
 use Rattle.std.proofs.lemmas.Slice.Eq.{bytes_eq-Decides}
-use Rattle.clight_syntax.specs.declared.second_items.SmallStmt.{SmallStmt}
-use Rattle.clight_syntax.specs.declared.second_items.SmallStmt.TheVariants.{Put, Call, Return}
-use Rattle.clight_syntax.specs.declared.second_items.Item.{Item}
-use Rattle.clight_syntax.specs.SecondForm.{reserved_words, IsItem, StaticAlike}
-use Rattle.clight_syntax.specs.SecondFaults.{is_call_of, has_call_of, is_shown, is_wanted}
-use Rattle.clight_syntax.specs.SecondRun.{own, shown}
+use Rattle.second_form.specs.declared.second_items.SmallStmt.{SmallStmt}
+use Rattle.second_form.specs.declared.second_items.SmallStmt.TheVariants.{Put, Call, Return}
+use Rattle.second_form.specs.declared.second_items.Item.{Item}
+use Rattle.second_form.specs.SecondForm.{reserved_words, IsItem, StaticAlike}
+use Rattle.second_form.specs.SecondFaults.{is_call_of, has_call_of, is_shown, is_wanted}
+use Rattle.second_form.specs.SecondRun.{own, shown}
 use Rattle.elf_file.specs.Object.{no_symbol}
 use Rattle.elf_linker.specs.Names.{is_definition, is_use, defines, all_symbols, is_defined}
 use Rattle.second_code.specs.LinkedObjects.{IsUnit, unit_object, linked_objects}

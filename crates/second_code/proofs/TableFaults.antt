@@ -8,7 +8,7 @@ use Rattle.std.proofs.lemmas.List.Folds.{list_any-append}
 use Rattle.std.proofs.lemmas.Slice.Eq.{bytes_eq-Decides}
 use Rattle.indexmap.specs.IndexSet.{insert_all, insert_key}
 use Rattle.cc_base.specs.Faces.{first_answer}
-use Rattle.clight_syntax.specs.declared.second_items.Item.{Item}
+use Rattle.second_form.specs.declared.second_items.Item.{Item}
 use Rattle.elf_file.specs.Object.{no_symbol}
 use Rattle.elf_file.specs.declared.parts.SymbolPart.{SymbolPart}
 use Rattle.elf_linker.specs.declared.fault.LinkFault.{LinkFault}

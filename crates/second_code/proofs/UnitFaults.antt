@@ -6,10 +6,10 @@ use Rattle.std.proofs.Math.ListN.{get_or-append}
 use Rattle.std.proofs.Math.Seq.{get_or-append_seam}
 use Rattle.std.proofs.lemmas.Option.{none-some}
 use Rattle.std.proofs.lemmas.List.Folds.{list_any-append}
-use Rattle.clight_syntax.specs.declared.second_items.Item.{Item}
-use Rattle.clight_syntax.specs.SecondForm.{reserved_words, IsItem, StaticAlike}
-use Rattle.clight_syntax.specs.SecondRun.{own}
-use Rattle.clight_syntax.specs.SecondFaults.{has_call_of, is_shown, is_wanted, names_of, shown_names, wanted_names}
+use Rattle.second_form.specs.declared.second_items.Item.{Item}
+use Rattle.second_form.specs.SecondForm.{reserved_words, IsItem, StaticAlike}
+use Rattle.second_form.specs.SecondRun.{own}
+use Rattle.second_form.specs.SecondFaults.{has_call_of, is_shown, is_wanted, names_of, shown_names, wanted_names}
 use Rattle.elf_file.specs.Object.{Object}
 use Rattle.elf_file.specs.declared.parts.SymbolPart.{SymbolPart}
 use Rattle.elf_linker.specs.declared.fault.LinkFault.{LinkFault}
@@ -98,7 +98,7 @@ module _ (units : List (List Item)) (are : All IsUnit units) where
       hidden items each alike = by (is_shown (codes "putbyte") items) refl
         where
           by : (b : Bool) → is_shown (codes "putbyte") items ≡ b → b ≡ false
-          by true t = let s = shown_definition items (codes "putbyte") alike t in absurd (none-some s.definition (sym (not_reserved items 0 (codes "putbyte") each (35, omega arith, refl)) ∙ s.is))
+          by true t = let s = shown_definition items (codes "putbyte") alike t in absurd (none-some s.definition (sym (not_reserved items 0 (codes "putbyte") each (1, omega arith, refl)) ∙ s.is))
           by false t = refl
 
       shared_when : (items : List Item) (name : List ℕ) → ShownAt 0 items name → Parts.is_shared items name ≡ true
@@ -140,5 +140,5 @@ module _ (units : List (List Item)) (are : All IsUnit units) where
       unwanted items each = by (is_wanted (codes "putbyte") items) refl
         where
           by : (b : Bool) → is_wanted (codes "putbyte") items ≡ b → b ≡ false
-          by true t = absurd (unit_free items (codes "putbyte") each (both_of (list_any (λ item. has_call_of (codes "putbyte") item.body) items) (not (is_some (own items (codes "putbyte")))) t).0 (35, omega arith, refl))
+          by true t = absurd (unit_free items (codes "putbyte") each (both_of (list_any (λ item. has_call_of (codes "putbyte") item.body) items) (not (is_some (own items (codes "putbyte")))) t).0 (1, omega arith, refl))
           by false t = refl

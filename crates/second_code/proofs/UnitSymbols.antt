@@ -4,10 +4,10 @@ use Rattle.std.specs.Str.{bytes_eq}
 use Rattle.std.proofs.Common.{◌∙◌, ap, sym, refl, subst, inl, inr}
 use Rattle.std.proofs.lemmas.Option.{none-some}
 use Rattle.std.proofs.lemmas.Slice.Eq.{bytes_eq-Decides}
-use Rattle.clight_syntax.specs.declared.second_items.SmallStmt.{SmallStmt}
-use Rattle.clight_syntax.specs.declared.second_items.Item.{Item}
-use Rattle.clight_syntax.specs.SecondForm.{StaticAlike, IsAt}
-use Rattle.clight_syntax.specs.SecondRun.{own, shown, body_or}
+use Rattle.second_form.specs.declared.second_items.SmallStmt.{SmallStmt}
+use Rattle.second_form.specs.declared.second_items.Item.{Item}
+use Rattle.second_form.specs.SecondForm.{StaticAlike, IsAt}
+use Rattle.second_form.specs.SecondRun.{own, shown, body_or}
 use Rattle.elf_file.specs.declared.parts.SymbolPart.{SymbolPart}
 use Rattle.second_code.specs.Parts as Parts
 use Rattle.second_code.specs.declared.definitions.Definition.{Definition}

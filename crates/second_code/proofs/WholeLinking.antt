@@ -5,10 +5,10 @@ use Rattle.std.proofs.Common.{arith, ◌∙◌, ap, sym, refl, subst, append-nil
 use Rattle.std.proofs.lemmas.Option.{same_Some}
 use Rattle.std.proofs.lemmas.List.Elements.{All-head, All-tail}
 use Rattle.std.proofs.lemmas.Slice.Eq.{bytes_eq-Decides}
-use Rattle.clight_syntax.specs.declared.second_items.SmallStmt.{SmallStmt}
-use Rattle.clight_syntax.specs.declared.second_items.Item.{Item}
-use Rattle.clight_syntax.specs.SecondForm.{IsItem, StaticAlike, reserved_words}
-use Rattle.clight_syntax.specs.SecondRun.{Meaning, own, meaning_or, shown_by, second_after}
+use Rattle.second_form.specs.declared.second_items.SmallStmt.{SmallStmt}
+use Rattle.second_form.specs.declared.second_items.Item.{Item}
+use Rattle.second_form.specs.SecondForm.{IsItem, StaticAlike, reserved_words}
+use Rattle.second_form.specs.SecondRun.{Meaning, own, meaning_or, shown_by, second_after}
 use Rattle.elf_file.specs.Object.{Object}
 use Rattle.elf_file.specs.declared.image.ImageParts.{ImageParts}
 use Rattle.elf_linker.specs.Placement.{text_address}
@@ -48,7 +48,7 @@ not_reserved (item ∷ items) at name each reserved =
     free_first item name at (Parts.definition_from to items name) (All-head IsItem item items each) reserved (not_reserved items to name (All-tail IsItem item items each) reserved) (bytes_eq item.name name) refl
 
 putbyte_reserved : Contains reserved_words (codes "putbyte")
-putbyte_reserved = (35, omega arith, refl)
+putbyte_reserved = (1, omega arith, refl)
 
 no_putbyte : (units : List (List Item)) → All IsUnit units → (unit : ℕ) → Parts.definition_from 0 (unit_at units unit) (codes "putbyte") ≡ None
 no_putbyte [] are unit = refl

@@ -1,9 +1,9 @@
 -- An image that is linked from the objects of units can be loaded.
 use Rattle.std.specs.Prelude.{◌≡◌, ℕ, ◌+◌, ◌<◌, ◌≤◌, List, [], ◌∷◌, length, All, Option, Some, None, Bool, true, false, cond, nat_lt, nat_le, ◌&&◌, ◌||◌}
 use Rattle.std.specs.Option.{option_or}
-use Rattle.std.proofs.Common.{arith, ◌∙◌, ap, refl}
+use Rattle.std.proofs.Common.{arith, ◌∙◌}
 use Rattle.std.proofs.lemmas.Bool.{le-ltb, lt-ltb, le-leb}
-use Rattle.clight_syntax.specs.declared.second_items.Item.{Item}
+use Rattle.second_form.specs.declared.second_items.Item.{Item}
 use Rattle.elf_file.specs.declared.image.ImageParts.{ImageParts}
 use Rattle.elf_linker.specs.Placement.{texts_end, whole_end}
 use Rattle.elf_linker.specs.Linked.{Linked}

@@ -1,7 +1,7 @@
 -- The parts of an object, of what its functions gave.
 use Rattle.std.proofs.Common.{◌≡◌, ℕ, List, [], ◌++◌, map, filter, ◌∙◌, ap, Bool, ◌||◌, Option}
 use Rattle.std.specs.Prelude.{not, ◌&&◌, is_some}
-use Rattle.clight_syntax.specs.declared.second_items.Item.{Item}
+use Rattle.second_form.specs.declared.second_items.Item.{Item}
 use Rattle.elf_file.specs.declared.parts.ObjectParts.{ObjectParts}
 use Rattle.elf_file.specs.declared.parts.SymbolPart.{SymbolPart}
 use Rattle.elf_file.specs.declared.parts.RelocPart.{RelocPart}

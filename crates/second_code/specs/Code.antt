@@ -1,8 +1,8 @@
 -- The code of functions of the second form where it stands in an image: each call goes to the address of what it calls.
 use Rattle.std.specs.Prelude.{ℕ, ◌+◌, List, [], ◌∷◌, ◌++◌}
 use Rattle.cc_base.specs.Words.{word_bytes, sub32}
-use Rattle.clight_syntax.specs.declared.second_items.SmallStmt.{SmallStmt}
-use Rattle.clight_syntax.specs.declared.second_items.SmallStmt.TheVariants.{Put, Call, Return}
+use Rattle.second_form.specs.declared.second_items.SmallStmt.{SmallStmt}
+use Rattle.second_form.specs.declared.second_items.SmallStmt.TheVariants.{Put, Call, Return}
 
 -- where the functions are: of this name in this unit, and the runtime's `putbyte`
 pub record Places : Type 0 where

@@ -1,6 +1,6 @@
 -- That the linker finds in the objects of units what is wrong with the units.
 use Rattle.std.specs.Prelude.{◌≡◌, ℕ, List, Option, Some, None}
-use Rattle.clight_syntax.specs.SecondFaults.{SourceFault, Doubled, Unresolved}
+use Rattle.second_form.specs.SecondFaults.{SourceFault, Doubled, Unresolved}
 use Rattle.elf_file.specs.Object.{Object, symbol_of}
 use Rattle.elf_linker.specs.declared.fault.LinkFault.{LinkFault}
 use Rattle.elf_linker.specs.declared.fault.LinkFault.TheVariants as linking

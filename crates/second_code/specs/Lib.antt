@@ -3,6 +3,7 @@ pub mod Parts
 pub mod PartSteps
 pub mod Placed
 pub mod LinkedUnits
+pub mod Weights
 pub mod Objects
 pub mod LinkedObjects
 pub mod TwoUnits

@@ -1,15 +1,16 @@
 -- The objects that units of the second form are linked from.
-use Rattle.std.specs.Prelude.{ℕ, List, map}
-use Rattle.clight_syntax.specs.declared.second_items.Item.{Item}
-use Rattle.clight_syntax.specs.SecondForm.{IsSecondForm}
+use Rattle.std.specs.Prelude.{List, map}
+use Rattle.clight_text.specs.declared.tree.External.{External}
+use Rattle.second_form.specs.declared.second_items.Item.{Item}
+use Rattle.second_form.specs.SecondForm.{IsSecondForm}
 use Rattle.elf_file.specs.Object.{Object, object_of}
 use Rattle.elf_linker.specs.Runtime.{with_runtime}
 use Rattle.second_code.specs.Parts.{parts_of}
 
--- the items are those of a text of the form
+-- the items are those of a tree of the form
 pub record IsUnit (items : List Item) : Type 0 where
-  pub text : List ℕ
-  pub form : IsSecondForm text items
+  pub tree : List External
+  pub form : IsSecondForm tree items
 
 abbrev pub unit_object : List Item → Object
 unit_object items = object_of (parts_of items)

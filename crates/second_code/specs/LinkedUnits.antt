@@ -1,7 +1,7 @@
 -- What an image holds where units of the second form are linked with the runtime.
 use Rattle.std.specs.Prelude.{◌≡◌, ℕ, ◌+◌, ◌<◌, ◌^◌, List, [], ◌++◌, length, slice_index_or, Some, codes}
-use Rattle.clight_syntax.specs.declared.second_items.Item.{Item}
-use Rattle.clight_syntax.specs.SecondRun.{Meaning, means, main_of}
+use Rattle.second_form.specs.declared.second_items.Item.{Item}
+use Rattle.second_form.specs.SecondRun.{Meaning, means, main_of}
 use Rattle.machine_steps.specs.StackAndCode.{Here}
 use Rattle.second_code.specs.Code.{Places, putbyte_code, start_code}
 use Rattle.second_code.specs.Parts.{definition_from}

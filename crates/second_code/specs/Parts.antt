@@ -4,9 +4,9 @@ use Rattle.std.specs.Prelude.{ℕ, suc, ◌+◌, List, [], ◌∷◌, ◌++◌, 
 use Rattle.std.specs.Str.{bytes_eq}
 use Rattle.cc_base.specs.Words.{word_bytes}
 use Rattle.indexmap.specs.IndexSet.{insert_all}
-use Rattle.clight_syntax.specs.declared.second_items.SmallStmt.{SmallStmt}
-use Rattle.clight_syntax.specs.declared.second_items.SmallStmt.TheVariants.{Put, Call, Return}
-use Rattle.clight_syntax.specs.declared.second_items.Item.{Item}
+use Rattle.second_form.specs.declared.second_items.SmallStmt.{SmallStmt}
+use Rattle.second_form.specs.declared.second_items.SmallStmt.TheVariants.{Put, Call, Return}
+use Rattle.second_form.specs.declared.second_items.Item.{Item}
 use Rattle.elf_file.specs.declared.parts.ObjectParts.{ObjectParts}
 use Rattle.elf_file.specs.declared.parts.SymbolPart.{SymbolPart}
 use Rattle.elf_file.specs.declared.parts.RelocPart.{RelocPart}

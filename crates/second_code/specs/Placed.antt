@@ -1,7 +1,7 @@
 -- What an image holds where the text of a unit of the second form is placed (Intel386 supplement, chapter 4, relocation).
 use Rattle.std.specs.Prelude.{◌≡◌, ℕ, ◌+◌, ◌<◌, ◌≤◌, List, length, take, drop, get_or, All}
 use Rattle.cc_base.specs.Words.{word_bytes, add32, sub32}
-use Rattle.clight_syntax.specs.declared.second_items.Item.{Item}
+use Rattle.second_form.specs.declared.second_items.Item.{Item}
 use Rattle.second_code.specs.Parts.{Use, text_of, unit_uses_from}
 
 -- S + A - P, where A is -4 (R_386_PC32)

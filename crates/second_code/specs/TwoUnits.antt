@@ -1,7 +1,7 @@
 -- A worked example: two units, and the image that is linked from their objects.
 use Rattle.std.specs.Prelude.{ℕ, List, [], ◌∷◌, ◌++◌, Some, None, false, codes}
-use Rattle.clight_syntax.specs.declared.second_items.SmallStmt.TheVariants.{Put, Call, Return}
-use Rattle.clight_syntax.specs.declared.second_items.Item.{Item}
+use Rattle.second_form.specs.declared.second_items.SmallStmt.TheVariants.{Put, Call, Return}
+use Rattle.second_form.specs.declared.second_items.Item.{Item}
 use Rattle.elf_file.specs.declared.image.ImageParts.{ImageParts}
 use Rattle.elf_linker.specs.Runtime.{getbyte_text, putbyte_text}
 

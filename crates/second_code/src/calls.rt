@@ -6,7 +6,7 @@ ghost use Rattle.second_code.specs.PartSteps.{use_of};
 
 use crate::text::{statement_size, statements};
 use cc_base::Sequence;
-use clight_syntax::{Item, SmallStmt};
+use second_form::{Item, SmallStmt};
 use std::alloc::{AllocError, Global};
 
 /// A call: what it names, and where its word stands in text.

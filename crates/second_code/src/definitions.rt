@@ -5,8 +5,8 @@ ghost use Rattle.second_code.specs.Parts.{body_of, body_size, text_of, definitio
 ghost use Rattle.second_code.specs.PartSteps.{found_at, or_later};
 
 use crate::text::body_size;
-use clight_syntax::Item;
 use indexmap::IndexMap;
+use second_form::Item;
 use std::alloc::{AllocError, Global};
 
 /// Where a function stands in text.

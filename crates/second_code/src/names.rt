@@ -9,8 +9,8 @@ use crate::calls::CallSite;
 use crate::definitions::{Definitions, look_up};
 use crate::text::statements;
 use cc_base::Sequence;
-use clight_syntax::{Item, SmallStmt};
 use indexmap::IndexSet;
+use second_form::{Item, SmallStmt};
 use std::alloc::{AllocError, Global};
 
 /// Names, each once, in the order of their first sight.

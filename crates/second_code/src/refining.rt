@@ -1,9 +1,9 @@
 // That linked units do what they mean.
 ghost use Rattle.std.specs.Prelude.{◌≡◌, ◌≢◌, ℕ, List, All, None};
 ghost use Rattle.cc_base.specs.declared.run.Outcome.TheVariants.{Wrong};
-ghost use Rattle.clight_syntax.specs.declared.second_items.Item.{Item};
-ghost use Rattle.clight_syntax.specs.SecondFaults.{Linkable, source_fault};
-ghost use Rattle.clight_syntax.specs.SecondRun.{second_after};
+ghost use Rattle.second_form.specs.declared.second_items.Item.{Item};
+ghost use Rattle.second_form.specs.SecondFaults.{Linkable, source_fault};
+ghost use Rattle.second_form.specs.SecondRun.{second_after};
 ghost use Rattle.elf_file.specs.declared.image.ImageParts.{ImageParts};
 ghost use Rattle.elf_linker.specs.Linked.{Linked};
 ghost use Rattle.elf_linker.specs.Names.{link_fault};

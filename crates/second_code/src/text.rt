@@ -5,7 +5,7 @@ ghost use Rattle.second_code.specs.Parts.{open_statement, open_body, body_of, bo
 ghost use Rattle.second_code.specs.Code.{statement_size};
 
 use cc_base::Bytes;
-use clight_syntax::{Item, SmallStmt};
+use second_form::{Item, SmallStmt};
 use std::alloc::{AllocError, Global};
 
 // The number of the section of text.

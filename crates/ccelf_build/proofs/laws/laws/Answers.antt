@@ -3,7 +3,6 @@ use Rattle.ccelf_build.proofs.laws.laws.Goals as goal
 pub returns : goal.returns
 returns c = record {
   one_answer = c.one_answer.ensures;
-  one_form = c.text_has_one_form.ensures;
   one_object = c.object_has_one_meaning.ensures;
   one_image = c.image_has_one_meaning.ensures;
   refine = c.linked_units_refine.ensures;

@@ -1,5 +1,5 @@
 use Rattle.std.proofs.Common.{◌≡◌, ◌+◌, ◌++◌, ℕ, List, ap, ◌∙◌, arith, map, subst, sym, drop}
-use Rattle.clight_syntax.specs.declared.second_items.SmallStmt.{SmallStmt}
+use Rattle.second_form.specs.declared.second_items.SmallStmt.{SmallStmt}
 use Rattle.second_code.specs.Parts.{body_of, body_size, uses_from, unit_uses_from}
 use Rattle.second_code.specs.PartSteps.{use_of}
 use Rattle.second_code.proofs.PartLemmas.{text_left, unit_uses_more}

@@ -1,6 +1,0 @@
-use Rattle.std.proofs.Common.{take}
-use Rattle.clight_syntax.proofs.NameRules.{IndexedSoFar}
-use Rattle.clight_syntax.proofs.second_names.index_of.Given as goal
-
-abbrev pub invariant-loop-place : goal.invariant-loop-place
-invariant-loop-place l = IndexedSoFar (take l.place l.items) l.names

@@ -1,8 +1,0 @@
-use Rattle.std.proofs.Common.{ℕ, ◌<◌}
-use Rattle.clight_syntax.specs.declared.second_items.Item.{Item}
-use Rattle.clight_syntax.specs.SecondForm.{IsAt}
-use Rattle.clight_syntax.specs.SecondNames.{KeepsItem}
-use Rattle.clight_syntax.proofs.second_names.keep_items.Given as goal
-
-abbrev pub invariant-loop-place : goal.invariant-loop-place
-invariant-loop-place l = (i : ℕ) (a : Item) → i < l.place → IsAt l.items i a → KeepsItem l.names i a

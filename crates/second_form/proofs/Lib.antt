@@ -1,0 +1,4 @@
+pub mod Each
+pub mod Identifiers
+pub mod NameRules
+pub mod SecondExamples

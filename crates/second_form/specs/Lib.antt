@@ -1,0 +1,6 @@
+pub mod SecondForm
+pub mod SecondRun
+pub mod SecondNames
+pub mod SecondFaults
+pub mod SecondLaws
+pub mod SecondLinks
