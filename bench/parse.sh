@@ -1,6 +1,6 @@
 #!/bin/sh
-# Times `parse` on generated texts of 64 KiB up to 1 MiB, beside `tcc -c` on the same files where tcc is installed: see
-# README.md beside this file.
+# Times `parse` on generated texts of 64 KiB up to 1 MiB, `ccelf compile` where the gate has built it, and `tcc -c` on the same
+# files where tcc is installed: see README.md beside this file.
 set -eu
 
 top=$(cd "$(dirname "$0")/.." && pwd)
@@ -69,6 +69,11 @@ measured() {
     }'
 }
 
+# The whole program, as the gate builds it. The texts are not of the form that it compiles, so it reads, parses and checks them.
+ccelf=$top/crates/ccelf/out/ccelf
+if [ ! -x "$ccelf" ]; then
+    echo 'ccelf is not built (rt ci builds it), so types are skipped'
+fi
 if ! command -v tcc > /dev/null; then
     echo 'tcc is not installed, so it is skipped'
 fi
@@ -78,6 +83,9 @@ for size in 65536 131072 262144 524288 1048576; do
     found=$("$built" "$folder/$size.c")
     echo "$found" | grep -q declarations || { echo "no unit: $found"; exit 1; }
     measured parse "$bytes" "$built" "$folder/$size.c"
+    if [ -x "$ccelf" ]; then
+        measured types "$bytes" "$ccelf" compile "$folder/$size.c" "$folder/object"
+    fi
     if command -v tcc > /dev/null; then
         measured tcc "$bytes" tcc -c -o "$folder/object" "$folder/$size.c"
     fi
