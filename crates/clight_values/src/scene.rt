@@ -2,6 +2,7 @@
 use block_mem::{BlockName, Memory, Value};
 
 /// What an expression is found in.
+#[derive(Drop)]
 pub struct Scene<'s> {
     pub memory: &'s Memory,
     /// The parameters and `register` locals of the activation, as far as they are set.
