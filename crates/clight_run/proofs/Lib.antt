@@ -1,0 +1,9 @@
+pub mod Lefts
+pub mod Frames
+pub mod Blocks
+pub mod Again
+pub mod Outside
+pub mod Given
+pub mod Going
+pub mod Turns
+pub mod Tables

@@ -1,0 +1,4 @@
+pub mod Lefts
+pub mod Frames
+pub mod Processes
+pub mod Running
