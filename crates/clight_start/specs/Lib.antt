@@ -1,0 +1,6 @@
+pub mod Small
+pub mod Firsts
+pub mod Linkages
+pub mod Noted
+pub mod Making
+pub mod FaultsAt
