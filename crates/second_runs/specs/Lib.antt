@@ -1,0 +1,4 @@
+pub mod Mirrors
+pub mod Found
+pub mod Callees
+pub mod Runs

@@ -1,0 +1,4 @@
+pub mod Typed
+pub mod Scopes
+pub mod Walked
+pub mod Laws

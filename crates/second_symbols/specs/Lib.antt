@@ -1,0 +1,5 @@
+pub mod Sources
+pub mod Shapes
+pub mod Sighted
+pub mod ItemSights
+pub mod Symbols
