@@ -20,6 +20,8 @@ use Rattle.ccelf_build.specs.Laws.{Laws}
 use Rattle.ccelf_build.specs.Told.{Compiled, IsCompiled, RanFor, Comes, objects_of, items_of, SomePut, IsBuilt, exec_told}
 use Rattle.ccelf_build.proofs.Names.{units_apart}
 use Rattle.ccelf_build.proofs.Units.{Tells, put_more, put_one}
+use Rattle.second_source.specs.Laws.{source_refines}
+use Rattle.ccelf_build.proofs.Made.{Sources, sources_of}
 use Rattle.ccelf_build.proofs.UnitLists.{files_of, same_first, PutFirst, UnitsRow, units_row, units_done, made_all}
 use Rattle.ccelf_build.proofs.Objects.{are_units, units_linked, UnitsLinked, runs_loaded}
 use Rattle.ccelf_build.proofs.Running.{comes_so}
@@ -81,6 +83,9 @@ module _ (laws : Laws) (steps : ℕ) (image : List ℕ) (units : List (List ℕ)
         inl (all_some new (objects_put new (ap (λ (x : FilesSeen). x.told) h.0) (ap (λ (x : Outside). x.input) h.1) (ap (λ (x : Outside). x.output) h.1)))
     from_store bytes new _ h = absurd h.0
 
+    texts : Sources files units all
+    texts = sources_of files units all are
+
     module _ (parts : ImageParts) (linked : Linked (linked_objects (items_of all)) parts) (fine : link_fault (linked_objects (items_of all)) ≡ None) (bytes : List ℕ) (written : IsImageOf parts bytes) where
       abbrev built : IsBuilt units files input parts
       built = record {
@@ -90,7 +95,10 @@ module _ (laws : Laws) (steps : ℕ) (image : List ℕ) (units : List (List ℕ)
         no_fault = fine;
         bytes = bytes;
         written = written;
-        refines = laws.refine (items_of all) parts (are_units (items_of all) (files_of all) (made_all files units all are)) linked fine input;
+        sources = texts.sources;
+        typed = texts.typed;
+        refines = source_refines (items_of all) texts.sources texts.are input (image_after parts input)
+            (laws.refine (items_of all) parts (are_units (items_of all) (files_of all) (made_all files units all are)) linked fine input);
       }
 
       loads : load_fault parts ≡ None

@@ -4,16 +4,18 @@ use Rattle.std.specs.FinMap.{insert}
 use Rattle.std.proofs.lemmas.List.{map-append}
 use Rattle.cc_base.specs.Seen.{FilesSeen}
 use Rattle.elf_file.specs.declared.image.ImageParts.{ImageParts}
-use Rattle.command_words.specs.Commands.{Request, Compile, Link, Run, Show, Exec, object_name}
+use Rattle.command_words.specs.Commands.{Request, Compile, Link, Run, Show, Exec, Mean, object_name}
 use Rattle.commands.specs.declared.answer.Answer.{Answer}
 use Rattle.commands.specs.declared.answer.Answer.TheVariants as answer
 use Rattle.commands.specs.Doing.{Outside, Step, Command, Then, AndThen, Each}
 use Rattle.clight_print.specs.Canonical.{canonical_text}
 use Rattle.commands.specs.Steps.{Fetches, Stores, Parses, GivesOut, Compiles, Keeps, CompilesTo, Links, Runs, RunsBy}
+use Rattle.commands.specs.Meanings.{ChecksText, Checks, MeansBy}
 use Rattle.commands.specs.Does.{does}
 use Rattle.ccelf_build.specs.Contents.{Contents, NamedBytes, put_all}
 use Rattle.ccelf_build.specs.Kept.{names_put, Kept}
 use Rattle.ccelf_build.proofs.Chains.{keep_it, store_it, compile_it, with_first}
+use Rattle.ccelf_build.proofs.Meanings.{means_still}
 use Rattle.ccelf_build.proofs.Runnings.{runs_by}
 
 -- all of these names were put
@@ -186,6 +188,13 @@ runs_puts steps name bytes old new e h =
     (runs_by steps name bytes old (λ told end. end.files.told ≡ old.files.told) (λ none. refl) (λ image index is fault. refl) (λ image is fault. refl) refl
     (λ image is loads told end r. run_puts image steps old end told r) e new h)
 
+-- a unit that is got and checked is put nowhere
+check_puts : (name text : List ℕ) → Puts [] (ChecksText name text)
+check_puts name text = ((λ old new a h. none_put old.files new.files (files_same _ _ h.1)), (λ old new e h. none_kept [] old.files new.files (files_same _ _ h.1)))
+
+checks_puts : (name : List ℕ) → Puts [] (Checks name)
+checks_puts name = and_then_puts [] [] (Fetches name) (λ text. ChecksText name text) (fetch_puts name) (λ text. check_puts name text)
+
 pub kept : (r : Request) → PutsBy (names_put r) (does r)
 kept (Compile unit object) = then_puts (object ∷ []) [] (CompilesTo unit object) _ (unit_puts unit object) (λ bytes old new e h. none_kept [] old.files new.files (files_same _ _ h.1))
 kept (Link image objects) =
@@ -205,3 +214,6 @@ kept (Exec steps image units) =
     (subst P (one_of units) (each_puts (λ unit. CompilesTo unit (object_name unit)) (λ (x : List ℕ). object_name x ∷ []) (λ unit. unit_puts unit (object_name unit)) units)) (λ files.
     then_puts [] (image ∷ []) (Links (map object_name units) files) _ (link_puts (map object_name units) files) (λ bytes.
     then_puts (image ∷ []) [] (Stores image bytes) _ (store_puts image bytes) (λ _. runs_puts steps image bytes)))
+kept (Mean steps units) =
+    let P : List (List ℕ) → Type 0 = λ ns. Puts ns (Each Checks units) in
+    then_puts [] [] (Each Checks units) _ (subst P (none_of units) (each_puts Checks (λ (x : List ℕ). []) checks_puts units)) (λ typed old new e h. none_kept [] old.files new.files (told_same _ _ (means_still steps units typed old new e h)))

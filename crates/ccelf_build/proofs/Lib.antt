@@ -1,4 +1,5 @@
 pub mod Runnings
+pub mod Meanings
 pub mod Chains
 pub mod Raising
 pub mod Forcing
@@ -8,6 +9,7 @@ pub mod Ending
 pub mod Names
 pub mod Listing
 pub mod Units
+pub mod Made
 pub mod UnitLists
 pub mod Objects
 pub mod Executing
@@ -15,9 +17,11 @@ pub mod Compiling
 pub mod Linking
 pub mod Running
 pub mod Showing
+pub mod Meaning
 pub mod Statuses
 pub mod Reasons
 pub mod OneForm
 pub mod OneReason
+pub mod OneMeaning
 pub mod Causing
 pub mod Promising

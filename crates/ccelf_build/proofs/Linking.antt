@@ -2,7 +2,8 @@
 use Rattle.std.proofs.Common.{◌≡◌, ◌∷◌, [], ℕ, List, map, length, None, Result, Ok, Err, inl, inr, refl, ap, ◌∙◌, sym, subst}
 use Rattle.cc_base.specs.Seen.{FilesSeen}
 use Rattle.second_form.specs.declared.second_items.Item.{Item}
-use Rattle.second_form.specs.SecondRun.{second_after}
+use Rattle.clight_unit.specs.declared.unit.Unit.{Unit as TypedUnit}
+use Rattle.second_source.specs.Laws.{source_refines}
 use Rattle.pass_core.specs.Refines.{Refines}
 use Rattle.elf_file.specs.Object.{Object}
 use Rattle.elf_linker.specs.Linked.{Linked}
@@ -21,6 +22,8 @@ use Rattle.ccelf_build.specs.Told.{AreMade, AreObjectsAt, link_told}
 use Rattle.ccelf_build.proofs.Chains.{rest_failed}
 use Rattle.ccelf_build.proofs.Listing.{stop_here, stop_later}
 use Rattle.ccelf_build.proofs.Units.{Tells, FetchRow, fetch_row, fetch_same, fetch_stands, none_put, nothing_done, put_one}
+use Rattle.ccelf_build.specs.Sources.{units_after}
+use Rattle.ccelf_build.proofs.Made.{ItemsMade, items_made}
 use Rattle.ccelf_build.proofs.Objects.{are_units, objects_are}
 
 -- what getting files comes to, by the answer
@@ -91,12 +94,14 @@ module _ (laws : Laws) (image : List ℕ) (names : List (List ℕ)) (files : Con
     from_link new _ h = absurd h.0.2
 
     module _ (objects : List Object) (are : AreObjectFiles bytes objects) (made : List ℕ) (linked : IsLinkedImage objects made) where
-      refines : (units : List (List Item)) → AreMade units bytes → (input : List ℕ) → Refines (second_after units) (image_after linked.image input)
-      refines units h input =
-          let same : objects ≡ map unit_object units = objects_are laws units bytes objects h are in
+      refines : (sources : List TypedUnit) → AreMade sources bytes → (input : List ℕ) → Refines (units_after sources input) (image_after linked.image input)
+      refines sources h input =
+          let made : ItemsMade sources bytes = items_made sources bytes h in
+          let same : objects ≡ map unit_object made.units = objects_are laws made.units bytes objects made.are are in
           let P : List Object → Type 0 = λ os. Linked (with_runtime os) linked.image in
           let Q : List Object → Type 0 = λ os. link_fault (with_runtime os) ≡ None in
-          laws.refine units linked.image (are_units units bytes h) (subst P same linked.linked) (subst Q same linked.no_fault) input
+          source_refines made.units sources made.sources_are input (image_after linked.image input)
+          (laws.refine made.units linked.image (are_units made.units bytes made.are) (subst P same linked.linked) (subst Q same linked.no_fault) input)
 
       from_store : (new : Outside) (e : Answer) → Stores image made old (Err e) new → link_told image names files old e new
       from_store new answer.WriteFault h = none_put files old new there (ap (λ (x : FilesSeen). x.told) h.0.others) h.1

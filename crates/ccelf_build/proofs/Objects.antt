@@ -25,11 +25,11 @@ use Rattle.commands.specs.declared.answer.Answer.TheVariants as answer
 use Rattle.commands.specs.Doing.{Outside}
 use Rattle.commands.specs.Steps.{IsObjectFile, AreObjectFiles, IsFirstNoObject, this, later, LinkedFrom, LinkedBy, file_name, symbol_name, Runs, RunsBy}
 use Rattle.ccelf_build.specs.Laws.{Laws}
-use Rattle.ccelf_build.specs.Told.{AreMade}
+use Rattle.ccelf_build.proofs.Made.{AreMadeOf}
 use Rattle.ccelf_build.proofs.Runnings.{runs_by}
 
 -- objects of units are units
-pub are_units : (units : List (List Item)) (files : List (List ℕ)) → AreMade units files → All IsUnit units
+pub are_units : (units : List (List Item)) (files : List (List ℕ)) → AreMadeOf units files → All IsUnit units
 are_units [] files h = λ k d l. absurd (no_place k l)
   where
     no_place : (k : ℕ) → k < 0 → ⊥
@@ -41,7 +41,7 @@ are_units (items ∷ units) (file ∷ files) h = All-cons IsUnit items units (re
 object_is : Laws → (items : List Item) (file : List ℕ) (object : Object) → IsFileOf (parts_of items) file → IsObjectFile file object → object ≡ unit_object items
 object_is laws items file object w o = o.is ∙ ap object_of (laws.one_object o.parts (parts_of items) file o.file_of w)
 
-pub objects_are : Laws → (units : List (List Item)) (files : List (List ℕ)) (objects : List Object) → AreMade units files → AreObjectFiles files objects → objects ≡ map unit_object units
+pub objects_are : Laws → (units : List (List Item)) (files : List (List ℕ)) (objects : List Object) → AreMadeOf units files → AreObjectFiles files objects → objects ≡ map unit_object units
 objects_are laws [] [] [] h k = refl
 objects_are laws [] [] (o ∷ objects) h k = absurd k
 objects_are laws [] (file ∷ files) objects h k = absurd h
@@ -53,7 +53,7 @@ objects_are laws (items ∷ units) (file ∷ files) (o ∷ objects) h k =
     cc
 
 -- a list of objects of units has none that is no object
-pub none_is_none : (units : List (List Item)) (names files : List (List ℕ)) (which : List ℕ) → AreMade units files → IsFirstNoObject names files which → ⊥
+pub none_is_none : (units : List (List Item)) (names files : List (List ℕ)) (which : List ℕ) → AreMadeOf units files → IsFirstNoObject names files which → ⊥
 none_is_none [] names files which h (this name file ns fs n) = h
 none_is_none [] names files which h (later name file w ns fs object o rest) = h
 none_is_none (items ∷ units) names files which h (this name file ns fs n) = n (parts_of items) h.0.written
@@ -127,7 +127,7 @@ module _ (units : List (List Item)) where
     by_objects (Err _) h = h
 
 -- what linking the objects of units comes to
-pub units_linked : Laws → (names files : List (List ℕ)) (units : List (List Item)) → AreMade units files → (result : Result (List ℕ) Answer) → LinkedFrom names files result → UnitsLinked names units result
+pub units_linked : Laws → (names files : List (List ℕ)) (units : List (List Item)) → AreMadeOf units files → (result : Result (List ℕ) Answer) → LinkedFrom names files result → UnitsLinked names units result
 units_linked laws names files units made result h = by_result result h
   where
     found : IsFoundAs (linked_objects units) (source_fault units) (link_fault (linked_objects units))

@@ -56,7 +56,7 @@ limit_status limit.Nodes = refl
 no_fault : (tree : List External) (unit : TypedUnit) (broken : Row) → Typed tree unit → fault_of tree ≡ Some broken → ⊥
 no_fault tree unit broken t h = let e : None ≡ Some broken = sym (ap (λ (rows : List Row). told None rows) t.unbroken) ∙ h in absurd (cc (e))
 
-breaks_or_typed : Laws → (text : List ℕ) (broken : Row) (tree : List External) (unit : TypedUnit) → BreaksRule text broken → HasTree text tree → Typed tree unit → ⊥
+pub breaks_or_typed : Laws → (text : List ℕ) (broken : Row) (tree : List External) (unit : TypedUnit) → BreaksRule text broken → HasTree text tree → Typed tree unit → ⊥
 breaks_or_typed laws text broken tree unit h parsed t =
     let P : List External → Type 0 = λ t. fault_of t ≡ Some broken in
     no_fault tree unit broken t (subst P (one_tree laws text h.tree tree h.parsed parsed) h.told)

@@ -40,7 +40,7 @@ none_there : (t : Option (List ℕ)) (a : List ℕ) → t ≡ None → t ≡ Som
 none_there t a p q = none-some a (sym p ∙ q)
 
 module _ (files : Contents) where
-  one_file : (name a b : List ℕ) → StandsAt files name a → StandsAt files name b → a ≡ b
+  pub one_file : (name a b : List ℕ) → StandsAt files name a → StandsAt files name b → a ≡ b
   one_file name a b h k = both_there (get files name) a b h.there k.there
 
   stands_absent : (name bytes : List ℕ) → StandsAt files name bytes → IsAbsent files name → ⊥
@@ -60,19 +60,19 @@ syntax_status syntax.Memory = status.Memory
 syntax_status _ = status.Syntax
 
 -- the kinds of reasons, where so says what a unit's text comes to
-data TextKind (unit : List ℕ) (files : Contents) (so : List ℕ → Status → Type 0) (s : Status) : Type 0 where
+pub data TextKind (unit : List ℕ) (files : Contents) (so : List ℕ → Status → Type 0) (s : Status) : Type 0 where
   is_absent : IsAbsent files unit → s ≡ status.Missing → TextKind unit files so s
   is_long : IsLong files unit → s ≡ status.Limit → TextKind unit files so s
   is_faulty : (fault : SyntaxFault) → (fault ≡ syntax.Memory → ⊥) → HasFault files unit fault → s ≡ syntax_status fault → TextKind unit files so s
   is_read : (text : List ℕ) → StandsAt files unit text → IsText text → so text s → TextKind unit files so s
 
 module _ (unit : List ℕ) (files : Contents) (so : List ℕ → Status → Type 0) where
-  limits_kind : PassesLimit files unit → TextKind unit files so status.Limit
+  pub limits_kind : PassesLimit files unit → TextKind unit files so status.Limit
   limits_kind (inl h) = is_long h refl
   limits_kind (inr (inl h)) = is_faulty syntax.Long (λ e. cc) h refl
   limits_kind (inr (inr h)) = is_faulty (syntax.Deep h.0) (λ e. cc) h.1 refl
 
-  syntax_kind : HasSyntaxFault files unit → TextKind unit files so status.Syntax
+  pub syntax_kind : HasSyntaxFault files unit → TextKind unit files so status.Syntax
   syntax_kind (kind.Char, h) = is_faulty (syntax.Char h.0) (λ e. cc) h.1 refl
   syntax_kind (kind.Literal, h) = is_faulty (syntax.Literal h.0) (λ e. cc) h.1 refl
   syntax_kind (kind.Token, h) = is_faulty (syntax.Token h.0) (λ e. cc) h.1 refl
@@ -98,7 +98,7 @@ module _ (laws : Laws) (unit : List ℕ) (files : Contents) where
       let P : List ℕ → Type 0 = λ t. HasAnswer t (Err f) in
       no_fault f is.0 p (laws.one_answer text (Err f) (Ok is.0) (subst P (one_file files unit h.0 text h.1 k) h.2) is.1)
 
-  one_text : (so : List ℕ → Status → Type 0) → ((text : List ℕ) (s t : Status) → so text s → so text t → s ≡ t) → (s t : Status) → TextKind unit files so s → TextKind unit files so t → s ≡ t
+  pub one_text : (so : List ℕ → Status → Type 0) → ((text : List ℕ) (s t : Status) → so text s → so text t → s ≡ t) → (s t : Status) → TextKind unit files so s → TextKind unit files so t → s ≡ t
   one_text so one s t (is_absent h e) (is_absent k f) = e ∙ sym f
   one_text so one s t (is_absent h e) (is_long k f) = absurd (absent_long files unit h k)
   one_text so one s t (is_absent h e) (is_faulty fault q k f) = absurd (stands_absent files unit k.0 k.1 h)

@@ -1,7 +1,7 @@
 -- What the top call promises, of what the words are answered and how that ends.
 use Rattle.std.proofs.Common.{◌≡◌, ◌∷◌, ◌++◌, [], ℕ, List, Some, map, refl, inl, inr, sym, subst}
 use Rattle.cc_base.specs.Seen.{SinkSeen}
-use Rattle.command_words.specs.Commands.{Request, Compile, Link, Run, Show, Exec, Fits, FitsNone, AreNames, object_name}
+use Rattle.command_words.specs.Commands.{Request, Compile, Link, Run, Show, Exec, Mean, Fits, FitsNone, AreNames, object_name}
 use Rattle.commands.specs.declared.answer.Answer.{Answer}
 use Rattle.commands.specs.declared.answer.Answer.TheVariants as answer
 use Rattle.commands.specs.declared.answer.Status.{Status}
@@ -15,6 +15,7 @@ use Rattle.ccelf_build.specs.Kept.{Kept, names_put}
 use Rattle.ccelf_build.specs.Laws.{Laws}
 use Rattle.ccelf_build.specs.Tells.{Tells}
 use Rattle.ccelf_build.specs.Told.{compile_told, link_told, run_told, show_told, exec_told}
+use Rattle.ccelf_build.specs.Meant.{mean_told}
 use Rattle.ccelf_build.specs.Promise.{World, Asked, Promise}
 use Rattle.ccelf_build.proofs.Compiling.{compile_row}
 use Rattle.ccelf_build.proofs.Executing.{exec_row}
@@ -22,8 +23,10 @@ use Rattle.ccelf_build.proofs.Causing.{answered, caused}
 use Rattle.ccelf_build.proofs.Forcing.{forced}
 use Rattle.ccelf_build.proofs.Keeping.{kept, none_kept}
 use Rattle.ccelf_build.proofs.Linking.{link_row}
+use Rattle.ccelf_build.proofs.Meaning.{mean_row}
+use Rattle.ccelf_build.proofs.OneMeaning.{mean_one}
 use Rattle.ccelf_build.proofs.OneReason.{compile_one, show_one, link_one, run_one}
-use Rattle.ccelf_build.proofs.Reasons.{comes_by, compile_why, show_why, link_why, run_why, exec_comes}
+use Rattle.ccelf_build.proofs.Reasons.{comes_by, compile_why, show_why, link_why, run_why, mean_why, exec_comes}
 use Rattle.ccelf_build.proofs.Running.{run_row}
 use Rattle.ccelf_build.proofs.Showing.{show_row}
 use Rattle.ccelf_build.proofs.Statuses.{statuses}
@@ -56,6 +59,10 @@ module _ (laws : Laws) (files : Contents) (old : Outside) (there : old.files.tol
     asked_run : (steps : ℕ) (image : List ℕ) (new : Outside) (told : Answer) → Asked (does (Run steps image)) old told new → run_told steps image files input old told new
     asked_run steps image new told (inl h) = let P : Answer → Type 0 = λ a. run_told steps image files input old a new in subst P (sym h.0) (inl (nothing_done files old new there h.1))
     asked_run steps image new told (inr h) = run_row steps image files input old there known new told h
+
+    asked_mean : (steps : ℕ) (units : List (List ℕ)) (new : Outside) (told : Answer) → Asked (does (Mean steps units)) old told new → mean_told steps units files input old told new
+    asked_mean steps units new told (inl h) = let P : Answer → Type 0 = λ a. mean_told steps units files input old a new in subst P (sym h.0) (inl (nothing_done files old new there h.1))
+    asked_mean steps units new told (inr h) = mean_row steps units files input old there known new told h
 
     asked_exec : (steps : ℕ) (image : List ℕ) (units : List (List ℕ)) → AreNames (image ∷ units ++ map object_name units) → (new : Outside) (told : Answer) → Asked (does (Exec steps image units)) old told new
         → exec_told steps image units files input old told new
@@ -93,6 +100,7 @@ promised laws words old new result told out fits none refused tells ends =
         done = asked_exec laws files before there input known steps image units f.names behind told (fits (Exec steps image units) f);
         ends = ends;
       };
+      mean = λ steps units files input f there known. record { answer = told; output = out; done = asked_mean laws files before there input known steps units behind told (fits (Mean steps units) f); ends = ends };
       compile_comes = λ unit object files f there.
           comes_by _ (compile_one laws unit files) told out old.report new.output new.report result (compile_why unit object files before behind told (asked_compile laws files before there unit object behind told (fits (Compile unit object) f))) ends;
       link_comes = λ image objects files f there.
@@ -104,4 +112,7 @@ promised laws words old new result told out fits none refused tells ends =
           comes_by _ (show_one laws unit files) told out old.report new.output new.report result (show_why unit files before behind told (asked_show laws files before there unit behind told (fits (Show unit) f))) ends;
       exec_comes = λ steps image units files input f there known.
           exec_comes laws steps units files input image before behind told out old.report new.output new.report result (asked_exec laws files before there input known steps image units f.names behind told (fits (Exec steps image units) f)) ends;
+      mean_comes = λ steps units files input f there known.
+          comes_by _ (mean_one laws steps units files input) told out old.report new.output new.report result
+          (mean_why steps units files input before behind told (asked_mean laws files before there input known steps units behind told (fits (Mean steps units) f))) ends;
     }

@@ -2,15 +2,19 @@
 use Rattle.std.proofs.Common.{◌≡◌, ℕ, List, [], ◌∷◌, map, Result, Ok, Err, inl, inr, subst, ap, ◌∙◌, sym}
 use Rattle.cc_base.specs.Seen.{FilesSeen, SourceSeen, SinkSeen}
 use Rattle.elf_file.specs.declared.image.ImageParts.{ImageParts}
-use Rattle.command_words.specs.Commands.{Request, Compile, Link, Run, Show, Exec, object_name}
+use Rattle.command_words.specs.Commands.{Request, Compile, Link, Run, Show, Exec, Mean, object_name}
 use Rattle.commands.specs.declared.answer.Answer.{Answer}
 use Rattle.commands.specs.declared.answer.Answer.TheVariants as answer
 use Rattle.commands.specs.Doing.{Outside, Step, Command, Then, AndThen, Each}
 use Rattle.clight_print.specs.Canonical.{canonical_text}
 use Rattle.commands.specs.Steps.{Fetches, Stores, Parses, GivesOut, Compiles, Keeps, CompilesTo, Links, Ran, Runs, RunsBy}
+use Rattle.clight_unit.specs.declared.unit.Unit.{Unit as TypedUnit}
+use Rattle.clight_sem.specs.Turns.{source_after}
+use Rattle.commands.specs.Meanings.{ChecksText, Checks, room, MeansBy}
 use Rattle.commands.specs.Does.{does}
 use Rattle.ccelf_build.specs.Tells.{counts, Raises, Tells}
 use Rattle.ccelf_build.proofs.Chains.{keep_it, store_it, compile_it, rest_failed}
+use Rattle.ccelf_build.proofs.Meanings.{not_moved, stood_still, read_raised, write_raised, want_raised}
 use Rattle.ccelf_build.proofs.Runnings.{runs_by}
 
 -- a step that went well raises no count
@@ -180,6 +184,39 @@ runs_honest steps name bytes old new e h =
     refl_of : (x : Outside) → x ≡ x
     refl_of x i = x
 
+check_quiet : (name text : List ℕ) → Quiet (ChecksText name text)
+check_quiet name text old new a h = ap counts h.1
+
+check_honest : (name text : List ℕ) → Honest (ChecksText name text)
+check_honest name text old new (answer.LimitText which) h = (ap counts h.1, λ e. cc)
+check_honest name text old new (answer.LimitDeep which at) h = (ap counts h.1, λ e. cc)
+check_honest name text old new (answer.Syntax which kind at) h = (ap counts h.1, λ e. cc)
+check_honest name text old new (answer.Typing which broken at) h = (ap counts h.1, λ e. cc)
+check_honest name text old new (answer.LimitUnit which limit at) h = (ap counts h.1, λ e. cc)
+check_honest name text old new answer.Memory h = (inl (ap counts h.1), λ e. cc)
+check_honest name text old new _ h = absurd h.0
+
+checks_quiet : (name : List ℕ) → Quiet (Checks name)
+checks_quiet name = and_then_quiet (Fetches name) (λ text. ChecksText name text) (fetch_quiet name) (λ text. check_quiet name text)
+
+checks_honest : (name : List ℕ) → Honest (Checks name)
+checks_honest name = and_then_honest (Fetches name) (λ text. ChecksText name text) (fetch_quiet name) (fetch_honest name) (λ text. check_honest name text)
+
+-- what a run of linked units raises, by its answer
+means_honest : (steps : ℕ) (names : List (List ℕ)) (units : List TypedUnit) → HonestCommand (MeansBy steps names units)
+means_honest steps names units old new (answer.Doubled name file) h = (not_moved old new h.2.1 h.2.0.1 h.2.0.2, λ e. cc)
+means_honest steps names units old new (answer.Unresolved name file) h = (not_moved old new h.2.1 h.2.0.1 h.2.0.2, λ e. cc)
+means_honest steps names units old new (answer.Sized name file stated defined) h = (not_moved old new h.2.1 h.2.0.1 h.2.0.2, λ e. cc)
+means_honest steps names units old new (answer.Ended status) h = (stood_still old new h.1 (source_after units room) steps _ h.0.1, λ e. cc)
+means_honest steps names units old new answer.Spent h = (stood_still old new h.1 (source_after units room) steps _ h.0.1, λ e. cc)
+means_honest steps names units old new (answer.Wrong turn) h = (stood_still old new h.1 (source_after units room) steps _ h.0.1.stands, λ e. cc)
+means_honest steps names units old new (answer.Deep turn) h = (stood_still old new h.1 (source_after units room) steps _ h.0.1.stands, λ e. cc)
+means_honest steps names units old new answer.ReadFault h = (read_raised old new h.1 (source_after units room) steps h.0.1, λ e. cc)
+means_honest steps names units old new answer.WriteFault h = (write_raised old new h.1 (source_after units room) steps h.0.1, λ e. cc)
+means_honest steps names units old new answer.Memory (inl h, same) = (inl (not_moved old new same h.0 h.1), λ e. cc)
+means_honest steps names units old new answer.Memory (inr h, same) = (want_raised old new same (source_after units room) steps h.1, λ e. cc)
+means_honest steps names units old new _ h = absurd h
+
 pub does_honest : (r : Request) → HonestCommand (does r)
 does_honest (Compile unit object) = then_honest (CompilesTo unit object) _ (unit_quiet unit object) (unit_honest unit object) (λ bytes old new e h. stored_honest old new e _ h.0 h.1)
   where
@@ -205,3 +242,4 @@ does_honest (Exec steps image units) =
     then_honest (Each (λ unit. CompilesTo unit (object_name unit)) units) _ (each_quiet (λ unit. CompilesTo unit (object_name unit)) (λ unit. unit_quiet unit (object_name unit)) units) (each_honest (λ unit. CompilesTo unit (object_name unit)) (λ unit. unit_quiet unit (object_name unit)) (λ unit. unit_honest unit (object_name unit)) units) (λ files.
     then_honest (Links (map object_name units) files) _ (link_quiet (map object_name units) files) (link_honest (map object_name units) files) (λ bytes.
     then_honest (Stores image bytes) _ (store_quiet image bytes) (store_honest image bytes) (λ _. runs_honest steps image bytes)))
+does_honest (Mean steps units) = then_honest (Each Checks units) _ (each_quiet Checks checks_quiet units) (each_honest Checks checks_quiet checks_honest units) (λ typed. means_honest steps units typed)

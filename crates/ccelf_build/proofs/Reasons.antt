@@ -16,8 +16,9 @@ use Rattle.commands.specs.Doing.{Outside}
 use Rattle.ccelf_build.specs.Contents.{Contents}
 use Rattle.ccelf_build.specs.Ends.{Ends}
 use Rattle.ccelf_build.specs.Told.{IsStuck, IsBuilt, items_of, compile_told, link_told, run_told, show_told, exec_told}
+use Rattle.ccelf_build.specs.Meant.{mean_told}
 use Rattle.ccelf_build.specs.Laws.{Laws}
-use Rattle.ccelf_build.specs.Causes.{Yields, ComesFor, compile_reason, link_reason, run_reason, show_reason, refusal, run_of_units, IsProgram, ExecComesFor}
+use Rattle.ccelf_build.specs.Causes.{Yields, ComesFor, compile_reason, link_reason, run_reason, show_reason, mean_reason, refusal, run_of_units, IsProgram, ExecComesFor}
 use Rattle.ccelf_build.proofs.Ending.{ended_so}
 use Rattle.second_form.specs.SecondFaults.{source_fault}
 use Rattle.ccelf_build.proofs.Listing.{stop_for}
@@ -123,11 +124,31 @@ exec_why steps image units files input old new answer.Spent h = inl (inr (h.0, h
 exec_why steps image units files input old new (answer.Stuck eip cause) h =
     let wrong = stuck_wrong h.0 input steps eip cause h.2.1 in
     let built = h.1.0 in
-    inl (inr ((h.0, built, wrong), (built.all, built.are, λ sound. (built.refines sound).sound.right steps wrong)))
+    inl (inr ((h.0, built, wrong), (built.sources, built.typed, λ sound. (built.refines sound).sound.right steps wrong)))
 exec_why steps image units files input old new answer.ReadFault h = inr read_fault
 exec_why steps image units files input old new answer.WriteFault h = inr write_fault
 exec_why steps image units files input old new answer.Memory h = inr memory
 exec_why steps image units files input old new _ h = absurd h
+
+pub mean_why : (steps : ℕ) (names : List (List ℕ)) (files : Contents) (input : List ℕ) (old new : Outside) (told : Answer) → mean_told steps names files input old told new → mean_reason steps names files input (status_of told) ⊎ Yields (status_of told)
+mean_why steps names files input old new (answer.Missing which) h = inl (stop_for _ _ _ names (λ name s. s.1) h.0)
+mean_why steps names files input old new (answer.LimitFile which) h = inl (stop_for _ _ _ names (λ name s. inl (inl s.1)) h.0)
+mean_why steps names files input old new (answer.LimitText which) h = inl (stop_for _ _ _ names (λ name s. inl (inr (inl s.1))) h.0)
+mean_why steps names files input old new (answer.LimitDeep which at) h = inl (stop_for _ _ _ names (λ name s. inl (inr (inr (at, s.1)))) h.0)
+mean_why steps names files input old new (answer.Syntax which kind at) h = inl (stop_for _ _ _ names (λ name s. (kind, (at, s.1))) h.0)
+mean_why steps names files input old new (answer.Typing which broken at) h = inl (stop_for _ _ _ names (λ name s. (broken, (at, s.1))) h.0)
+mean_why steps names files input old new (answer.LimitUnit which limit at) h = inl (stop_for _ _ _ names (λ name s. inr (limit, (at, s.1))) h.0)
+mean_why steps names files input old new (answer.Doubled name file) h = let a = h.0 in inl (a.0, a.1, (a.2.0, a.2.1, a.2.2))
+mean_why steps names files input old new (answer.Unresolved name file) h = let a = h.0 in inl (a.0, a.1, (a.2.0, a.2.1, a.2.2))
+mean_why steps names files input old new (answer.Sized name file stated defined) h = let a = h.0 in inl (a.0, a.1, (a.2.0, a.2.1, stated, defined, a.2.2))
+mean_why steps names files input old new (answer.Ended code) h = let a = h.1 in inl (code, (a.0, a.1, (a.2.0, a.2.1.1)))
+mean_why steps names files input old new answer.Spent h = let a = h.1 in inl (a.0, a.1, (a.2.0, a.2.1.1))
+mean_why steps names files input old new (answer.Wrong turn) h = let a = h.1 in inl (a.0, a.1, (a.2.0, a.2.1.1))
+mean_why steps names files input old new (answer.Deep turn) h = let a = h.1 in inl (a.0, a.1, (a.2.0, a.2.1.1))
+mean_why steps names files input old new answer.ReadFault h = inr read_fault
+mean_why steps names files input old new answer.WriteFault h = inr write_fault
+mean_why steps names files input old new answer.Memory h = inr memory
+mean_why steps names files input old new _ h = absurd h
 
 -- what exec comes to is for its reason
 abbrev Ran : Status → Type 0

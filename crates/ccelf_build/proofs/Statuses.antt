@@ -4,7 +4,7 @@ use Rattle.clight_text.specs.declared.tree.External.{External}
 use Rattle.clight_print.specs.Canonical.{canonical_text}
 use Rattle.second_form.specs.declared.second_items.Item.{Item}
 use Rattle.elf_file.specs.declared.image.ImageParts.{ImageParts}
-use Rattle.command_words.specs.Commands.{Request, Compile, Link, Run, Show, Exec, object_name}
+use Rattle.command_words.specs.Commands.{Request, Compile, Link, Run, Show, Exec, Mean, object_name}
 use Rattle.commands.specs.declared.answer.Answer.{Answer}
 use Rattle.commands.specs.declared.answer.Answer.TheVariants as answer
 use Rattle.commands.specs.declared.answer.Status.{Status}
@@ -12,11 +12,13 @@ use Rattle.commands.specs.declared.answer.Status.TheVariants as status
 use Rattle.commands.specs.Answers.{status_of}
 use Rattle.commands.specs.Doing.{Outside, Step, Says, Then, AndThen, Each}
 use Rattle.commands.specs.Steps.{Fetches, Stores, Parses, GivesOut, Compiles, Keeps, CompilesTo, Links, LinkedFrom, Runs, RunsBy}
+use Rattle.clight_unit.specs.declared.unit.Unit.{Unit as TypedUnit}
+use Rattle.commands.specs.Meanings.{ChecksText, Checks, MeansBy}
 use Rattle.commands.specs.Does.{does}
 use Rattle.cc_base.specs.Seen.{SinkSeen}
 use Rattle.ccelf_build.specs.Ends.{Ends}
 use Rattle.ccelf_build.specs.Laws.{Laws}
-use Rattle.ccelf_build.specs.Told.{AreMade}
+use Rattle.ccelf_build.proofs.Made.{AreMadeOf}
 use Rattle.ccelf_build.specs.Causes.{Yields}
 use Rattle.ccelf_build.specs.Promise.{IsCommon, IsStatusOf, Asked}
 use Rattle.ccelf_build.proofs.Chains.{keep_it, store_it, compile_it, rest_failed}
@@ -125,6 +127,7 @@ common (Link image objects) s h = inl h
 common (Run steps image) s h = inl h
 common (Show unit) s h = inl h
 common (Exec steps image units) s h = inl h
+common (Mean steps units) s h = inl h
 
 is_done : (r : Request) (e told : Answer) → e ≡ told → status_of told ≡ status.Done → IsStatusOf r (status_of e)
 is_done r e told same done = let P : Answer → Type 0 = λ a. IsStatusOf r (status_of a) in subst P (sym same) (common r (status_of told) (inl done))
@@ -152,16 +155,16 @@ kept_value : (object value : List ℕ) → (◌≡◌ {A = Result (List ℕ) Ans
 kept_value object value (inl e) = cc
 kept_value object value (inr e) = let clash : ◌≡◌ {A = Result (List ℕ) Answer} (Ok object) (Err answer.Memory) = e in cc
 
-made_from : (units : List (List ℕ)) (old new : Outside) (objects : List (List ℕ)) → Each compiles units old (Ok objects) new → (items : List (List Item)) × AreMade items objects
+made_from : (units : List (List ℕ)) (old new : Outside) (objects : List (List ℕ)) → Each compiles units old (Ok objects) new → (items : List (List Item)) × AreMadeOf items objects
 made_from [] old new objects h =
-    let P : List (List ℕ) → Type 0 = λ os. (items : List (List Item)) × AreMade items os in
+    let P : List (List ℕ) → Type 0 = λ os. (items : List (List Item)) × AreMadeOf items os in
     let none : objects ≡ [] = (let e : ◌≡◌ {A = Result (List (List ℕ)) Answer} (Ok objects) (Ok []) = h.0 in cc) in
     subst P (sym none) ([], tt)
 made_from (unit ∷ units) old new objects h =
     let rest = h.goes_on in
     let more = made_from units h.between rest.between rest.value rest.went in
     let a = h.went.goes_on in let b = a.goes_on in
-    let P : List (List ℕ) → Type 0 = λ os. (items : List (List Item)) × AreMade items os in
+    let P : List (List ℕ) → Type 0 = λ os. (items : List (List Item)) × AreMadeOf items os in
     let all : objects ≡ a.value ∷ rest.value = (let e : ◌≡◌ {A = Result (List (List ℕ)) Answer} (Ok objects) (Ok (h.value ∷ rest.value)) = rest.goes_on.0 in let f = kept_value h.value a.value b.goes_on.0 in cc) in
     subst P (sym all) (a.went.0.items ∷ more.0, (record { text = h.went.value; form = a.went.0.form; written = a.went.0.written }, more.1))
 
@@ -190,7 +193,7 @@ exec_statuses laws steps image units old new e (inl h) = of_units (each_text com
     of_units (inr (inr s)) = inr (inr (inl s))
 exec_statuses laws steps image units old new e (inr h) = after_units h.goes_on
   where
-    made : (items : List (List Item)) × AreMade items h.value
+    made : (items : List (List Item)) × AreMadeOf items h.value
     made = made_from units old h.between h.value h.went
 
     memory_so : (a : Answer) → a ≡ answer.Memory → IsStatusOf (Exec steps image units) (status_of a)
@@ -210,6 +213,40 @@ exec_statuses laws steps image units old new e (inr h) = after_units h.goes_on
     after_units : Then (Links (map object_name units) h.value) (λ bytes. Then (Stores image bytes) (λ _. Runs steps image bytes)) h.between e new → IsStatusOf (Exec steps image units) (status_of e)
     after_units (inl k) = exec_link steps image units (map object_name units) made.0 e (units_linked laws (map object_name units) h.value made.0 made.1 (Err e) k.0)
     after_units (inr k) = after_link k.value k.between (units_linked laws (map object_name units) h.value made.0 made.1 (Ok k.value) k.went.0) k.goes_on
+
+check_text : (name text : List ℕ) → TextStep (ChecksText name text)
+check_text name text old new (answer.LimitText which) h = inl limit
+check_text name text old new (answer.LimitDeep which at) h = inl limit
+check_text name text old new (answer.Syntax which kind at) h = inr (inl refl)
+check_text name text old new (answer.Typing which broken at) h = inr (inr refl)
+check_text name text old new (answer.LimitUnit which passed at) h = inl limit
+check_text name text old new answer.Memory h = inl memory
+check_text name text old new _ h = absurd h.0
+
+checks_text : (name : List ℕ) → TextStep (Checks name)
+checks_text name = and_then_text (Fetches name) (λ text. ChecksText name text) (as_text (Fetches name) (fetch_common name)) (λ text. check_text name text)
+
+means_statuses : (steps : ℕ) (names : List (List ℕ)) (units : List TypedUnit) (old new : Outside) (e : Answer) → MeansBy steps names units old e new → IsStatusOf (Mean steps names) (status_of e)
+means_statuses steps names units old new (answer.Doubled name file) h = inr (inr (inr (inl refl)))
+means_statuses steps names units old new (answer.Unresolved name file) h = inr (inr (inr (inr (inl refl))))
+means_statuses steps names units old new (answer.Sized name file stated defined) h = inr (inr (inr (inr (inr (inl refl)))))
+means_statuses steps names units old new (answer.Ended code) h = inl (inl refl)
+means_statuses steps names units old new answer.Spent h = inr (inr (inr (inr (inr (inr (inl refl))))))
+means_statuses steps names units old new (answer.Wrong turn) h = inr (inr (inr (inr (inr (inr (inr (inl refl)))))))
+means_statuses steps names units old new (answer.Deep turn) h = inr (inr (inr (inr (inr (inr (inr (inr refl)))))))
+means_statuses steps names units old new answer.ReadFault h = inl read
+means_statuses steps names units old new answer.WriteFault h = inl write
+means_statuses steps names units old new answer.Memory h = inl memory
+means_statuses steps names units old new _ h = absurd h
+
+mean_statuses : (steps : ℕ) (units : List (List ℕ)) (old new : Outside) (e : Answer) → does (Mean steps units) old e new → IsStatusOf (Mean steps units) (status_of e)
+mean_statuses steps units old new e (inl h) = of_units (each_text Checks checks_text units old new e h)
+  where
+    of_units : OfText (status_of e) → IsStatusOf (Mean steps units) (status_of e)
+    of_units (inl s) = inl s
+    of_units (inr (inl s)) = inr (inl s)
+    of_units (inr (inr s)) = inr (inr (inl s))
+mean_statuses steps units old new e (inr h) = means_statuses steps units h.value h.between new e h.goes_on
 
 answer_statuses : Laws → (r : Request) (old new : Outside) (e : Answer) → does r old e new → IsStatusOf r (status_of e)
 answer_statuses laws (Compile unit object) old new e (inl h) = unit_text unit object old new e h
@@ -243,6 +280,7 @@ answer_statuses laws (Show unit) old new e (inr h) = after_fetch h.goes_on
     after_fetch (inl k) = parse_text unit h.value h.between new e k
     after_fetch (inr k) = after_parse k.value k.between k.goes_on
 answer_statuses laws (Exec steps image units) old new e h = exec_statuses laws steps image units old new e h
+answer_statuses laws (Mean steps units) old new e h = mean_statuses steps units old new e h
 
 yields_common : (s : Status) → Yields s → IsCommon s
 yields_common s (inl e) = inr (inr (inl e))

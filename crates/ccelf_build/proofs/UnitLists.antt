@@ -10,7 +10,8 @@ use Rattle.clight_faults.specs.declared.fault.Row.{Row}
 use Rattle.clight_text.specs.declared.fault.SyntaxFault.TheVariants as syntax
 use Rattle.commands.specs.Steps.{CompilesTo, fault_at, rule_kind, limit_kind, row_at}
 use Rattle.ccelf_build.specs.Contents.{Contents, IsAbsent, IsLong, AreAll, FirstStop, NamedBytes, DidPut}
-use Rattle.ccelf_build.specs.Told.{Compiled, IsCompiled, HasNoUnit, HasFault, HasBroken, AreMade, objects_of, items_of}
+use Rattle.ccelf_build.specs.Told.{Compiled, IsCompiled, HasNoUnit, HasFault, HasBroken, objects_of, items_of}
+use Rattle.ccelf_build.proofs.Made.{AreMadeOf}
 use Rattle.ccelf_build.proofs.Chains.{rest_failed}
 use Rattle.ccelf_build.proofs.Listing.{stop_here, stop_later}
 use Rattle.ccelf_build.proofs.Names.{Lacks, Apart, get-other}
@@ -164,7 +165,7 @@ module _ (files : Contents) where
       subst P (sym all) (subst Q (sym rest.goes_on.1) (done_later now unit units old rest.between same.0 h.between d.0 d.1 d.3 rest.value more))
 
 -- compiled units are objects of units
-pub made_all : (files : Contents) (units : List (List ℕ)) (all : List Compiled) → AreAll (IsCompiled files) units all → AreMade (items_of all) (files_of all)
+pub made_all : (files : Contents) (units : List (List ℕ)) (all : List Compiled) → AreAll (IsCompiled files) units all → AreMadeOf (items_of all) (files_of all)
 made_all files [] [] h = tt
 made_all files [] (made ∷ all) h = absurd h
 made_all files (unit ∷ units) [] h = absurd h

@@ -2,19 +2,22 @@
 use Rattle.std.proofs.Common.{◌≡◌, ◌∷◌, [], ℕ, List, Result, Ok, Err, refl, inl, inr, ap, ◌∙◌, subst}
 use Rattle.cc_base.specs.Seen.{FilesSeen, SinkSeen}
 use Rattle.elf_file.specs.declared.image.ImageParts.{ImageParts}
-use Rattle.command_words.specs.Commands.{Request, Compile, Link, Run, Show, Exec}
+use Rattle.command_words.specs.Commands.{Request, Compile, Link, Run, Show, Exec, Mean}
 use Rattle.commands.specs.declared.answer.Answer.{Answer}
 use Rattle.commands.specs.declared.answer.Answer.TheVariants as answer
 use Rattle.commands.specs.declared.answer.Status.{Status}
 use Rattle.commands.specs.Doing.{Outside, Step, Command, Then, AndThen, Each}
 use Rattle.clight_print.specs.Canonical.{canonical_text}
 use Rattle.commands.specs.Steps.{Fetches, Stores, Parses, GivesOut, Compiles, Keeps, CompilesTo, Links, Runs, RunsBy}
+use Rattle.clight_unit.specs.declared.unit.Unit.{Unit as TypedUnit}
+use Rattle.commands.specs.Meanings.{Checks}
 use Rattle.commands.specs.Does.{does}
 use Rattle.ccelf_build.specs.Ends.{Ends}
 use Rattle.ccelf_build.specs.Kept.{OnlyFlushed, PutsNothing, LeavesAlone}
 use Rattle.ccelf_build.specs.Promise.{Asked}
-use Rattle.ccelf_build.proofs.Chains.{keep_it, store_it, compile_it, with_first}
+use Rattle.ccelf_build.proofs.Chains.{keep_it, store_it, compile_it, with_first, rest_failed}
 use Rattle.ccelf_build.proofs.Ending.{flushed_so}
+use Rattle.ccelf_build.proofs.Meanings.{means_still}
 use Rattle.ccelf_build.proofs.Runnings.{runs_by}
 
 -- no byte was asked for or given
@@ -114,6 +117,29 @@ run_command steps image old new e (inl h) = fetch_still image old new (Err e) h
 run_command steps image old new e (inr h) =
     both_still old.files h.between.files new.files (fetch_still image old h.between (Ok h.value) h.went) (still h.between.files new.files (runs_still steps image h.value h.between new e h.goes_on))
 
+-- mean: units are got, and linked units touch no file
+check_still : (name : List ℕ) (old new : Outside) (r : Result TypedUnit Answer) → Checks name old r new → PutsNothing old.files new.files
+check_still name old new (Ok unit) h =
+    both_still old.files h.between.files new.files (fetch_still name old h.between (Ok h.value) h.went) (still h.between.files new.files (ap (λ (x : Outside). x.files) h.goes_on.1))
+check_still name old new (Err e) (inl h) = fetch_still name old new (Err e) h
+check_still name old new (Err e) (inr h) =
+    both_still old.files h.between.files new.files (fetch_still name old h.between (Ok h.value) h.went) (still h.between.files new.files (ap (λ (x : Outside). x.files) h.goes_on.1))
+
+checks_still : (names : List (List ℕ)) (old new : Outside) (r : Result (List TypedUnit) Answer) → Each Checks names old r new → PutsNothing old.files new.files
+checks_still [] old new r h = still old.files new.files (ap (λ (x : Outside). x.files) h.1)
+checks_still (name ∷ names) old new (Ok units) h =
+    let rest = h.goes_on in
+    both_still old.files h.between.files new.files (check_still name old h.between (Ok h.value) h.went)
+    (both_still h.between.files rest.between.files new.files (checks_still names h.between rest.between (Ok rest.value) rest.went) (still rest.between.files new.files (ap (λ (x : Outside). x.files) rest.goes_on.1)))
+checks_still (name ∷ names) old new (Err e) (inl h) = check_still name old new (Err e) h
+checks_still (name ∷ names) old new (Err e) (inr h) =
+    both_still old.files h.between.files new.files (check_still name old h.between (Ok h.value) h.went) (checks_still names h.between new (Err e) (rest_failed Checks names h.value h.between new e h.goes_on))
+
+mean_command : (steps : ℕ) (units : List (List ℕ)) (old new : Outside) (e : Answer) → does (Mean steps units) old e new → PutsNothing old.files new.files
+mean_command steps units old new e (inl h) = checks_still units old new (Err e) h
+mean_command steps units old new e (inr h) =
+    both_still old.files h.between.files new.files (checks_still units old h.between (Ok h.value) h.went) (still h.between.files new.files (means_still steps units h.value h.between new e h.goes_on))
+
 -- show: the files and the input
 abbrev Reads : Outside → Outside → Type 0
 Reads old new = (new.input ≡ old.input) × PutsNothing old.files new.files
@@ -158,6 +184,7 @@ alone_so (Link image objects) old new report after last e result h ends =
 alone_so (Run steps image) old new report after last e result h ends = run_command steps image old new e h
 alone_so (Show unit) old new report after last e result h ends = show_command unit old new e h
 alone_so (Exec steps image units) old new report after last e result h ends = tt
+alone_so (Mean steps units) old new report after last e result h ends = mean_command steps units old new e h
 
 same_so : (r : Request) (old new : Outside) (report after last : SinkSeen) (e : Answer) (result : Status) → new ≡ old → Ends e new.output report result after last
     → LeavesAlone r old.files new.files old.input new.input old.output after
@@ -168,6 +195,7 @@ same_so (Link image objects) old new report after last e result h ends =
 same_so (Run steps image) old new report after last e result h ends = still old.files new.files (ap (λ (x : Outside). x.files) h)
 same_so (Show unit) old new report after last e result h ends = same_read old new h
 same_so (Exec steps image units) old new report after last e result h ends = tt
+same_so (Mean steps units) old new report after last e result h ends = still old.files new.files (ap (λ (x : Outside). x.files) h)
 
 pub left_alone : (r : Request) (old new : Outside) (report after last : SinkSeen) (e : Answer) (result : Status) → Asked (does r) old e new → Ends e new.output report result after last
     → LeavesAlone r old.files new.files old.input new.input old.output after

@@ -2,13 +2,15 @@
 use Rattle.std.specs.Prelude.{◌≡◌, ◌⊎◌, ℕ, List, Some, None}
 use Rattle.cc_base.specs.declared.run.Outcome.{Outcome}
 use Rattle.cc_base.specs.declared.run.Outcome.TheVariants as outcome
+use Rattle.cc_base.specs.Faces.{Linkable, source_fault as name_fault}
+use Rattle.cc_base.specs.declared.face.SourceFault.TheVariants as naming
 use Rattle.clight_text.specs.declared.tree.External.{External}
 use Rattle.clight_text.specs.declared.fault.SyntaxFault.TheVariants as syntax
 use Rattle.second_form.specs.declared.second_items.Item.{Item}
 use Rattle.second_form.specs.SecondFaults.{source_fault}
 use Rattle.second_form.specs.SecondFaults as source
-use Rattle.second_form.specs.SecondRun.{second_after}
 use Rattle.pass_core.specs.Refines.{Sound}
+use Rattle.clight_mean.specs.Means.{faces}
 use Rattle.elf_file.specs.Object.{Object}
 use Rattle.elf_file.specs.declared.image.ImageParts.{ImageParts}
 use Rattle.elf_linker.specs.Names.{link_fault, too_long}
@@ -25,6 +27,7 @@ use Rattle.commands.specs.declared.answer.Status.{Status}
 use Rattle.commands.specs.declared.answer.Status.TheVariants as status
 use Rattle.commands.specs.Steps.{fault_at, rule_kind, limit_kind, row_at, IsFirstNoObject}
 use Rattle.ccelf_build.specs.Contents.{Contents, StandsAt, IsAbsent, IsLong, AreAll, FirstStop}
+use Rattle.ccelf_build.specs.Sources.{IsTyped, AllTyped, units_after}
 use Rattle.ccelf_build.specs.Told.{Compiled, IsCompiled, HasNoUnit, HasFault, HasBroken, HasTreeAt, AreObjectsAt, IsLoaded, IsNotLoaded, HasNoImage, IsBuilt, items_of}
 
 -- A fault of the outside, which raised its count, or want of memory stands in place of the status.
@@ -129,7 +132,7 @@ BuiltRunsTo steps units files input outcome = (image : ImageParts) × IsBuilt un
 abbrev pub run_of_units : ℕ → List (List ℕ) → Contents → List ℕ → Status → Type 0
 run_of_units steps units files input status.Done = (code : ℕ) × BuiltRunsTo steps units files input (outcome.Ended code)
 run_of_units steps units files input status.Spent = BuiltRunsTo steps units files input outcome.Running
-run_of_units steps units files input status.Stuck = BuiltRunsTo steps units files input outcome.Wrong × AllCompiled units files (λ items. ¬ Sound (second_after items))
+run_of_units steps units files input status.Stuck = BuiltRunsTo steps units files input outcome.Wrong × AllTyped units files (λ sources. ¬ Sound (units_after sources input))
 run_of_units steps units files input _ = ⊥
 
 pub record ExecComesFor (steps : ℕ) (units : List (List ℕ)) (files : Contents) (input : List ℕ) (result : Status) : Type 0 where
@@ -139,3 +142,22 @@ pub record ExecComesFor (steps : ℕ) (units : List (List ℕ)) (files : Content
   pub refused : (s : Status) → refusal units files s → (result ≡ s) ⊎ Yields result
   -- and a program is run
   pub runs : IsProgram units files → ((result ≡ status.Done) ⊎ ((result ≡ status.Spent) ⊎ (result ≡ status.Stuck))) ⊎ Yields result
+
+-- the linked units have this outcome after their turns
+abbrev pub MeansTo : ℕ → List (List ℕ) → Contents → List ℕ → Outcome → Type 0
+MeansTo turns names files input outcome = AllTyped names files (λ units. Linkable (faces units) × ((units_after units input turns).outcome ≡ outcome))
+
+-- the reasons of mean
+abbrev pub mean_reason : ℕ → List (List ℕ) → Contents → List ℕ → Status → Type 0
+mean_reason turns names files input status.Missing = FirstStop (IsTyped files) names (IsAbsent files)
+mean_reason turns names files input status.Syntax = FirstStop (IsTyped files) names (HasSyntaxFault files)
+mean_reason turns names files input status.Typing = FirstStop (IsTyped files) names (HasTypeFault files)
+mean_reason turns names files input status.Limit = FirstStop (IsTyped files) names (λ name. PassesLimit files name ⊎ PassesUnitLimit files name)
+mean_reason turns names files input status.Doubled = AllTyped names files (λ units. (unit index : ℕ) × (name_fault (faces units) ≡ Some (naming.Doubled unit index)))
+mean_reason turns names files input status.Unresolved = AllTyped names files (λ units. (unit index : ℕ) × (name_fault (faces units) ≡ Some (naming.Unresolved unit index)))
+mean_reason turns names files input status.Sized = AllTyped names files (λ units. (unit index stated defined : ℕ) × (name_fault (faces units) ≡ Some (naming.Sized unit index stated defined)))
+mean_reason turns names files input status.Done = (code : ℕ) × MeansTo turns names files input (outcome.Ended code)
+mean_reason turns names files input status.Spent = MeansTo turns names files input outcome.Running
+mean_reason turns names files input status.Wrong = MeansTo turns names files input outcome.Wrong
+mean_reason turns names files input status.Deep = MeansTo turns names files input outcome.Deep
+mean_reason turns names files input _ = ⊥

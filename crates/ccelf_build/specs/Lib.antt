@@ -1,5 +1,7 @@
 pub mod Contents
+pub mod Sources
 pub mod Told
+pub mod Meant
 pub mod Ends
 pub mod Tells
 pub mod Kept

@@ -11,10 +11,10 @@ use Rattle.clight_faults.specs.declared.fault.Row.{Row}
 use Rattle.clight_text.specs.declared.fault.SyntaxFault.TheVariants as syntax
 use Rattle.clight_parser.specs.Parsing.{HasTree, HasAnswer}
 use Rattle.clight_print.specs.Canonical.{canonical_text}
+use Rattle.clight_unit.specs.declared.unit.Unit.{Unit as TypedUnit}
 use Rattle.second_form.specs.declared.second_items.Item.{Item}
 use Rattle.second_form.specs.SecondFaults.{source_fault}
 use Rattle.second_form.specs.SecondFaults as source
-use Rattle.second_form.specs.SecondRun.{second_after}
 use Rattle.pass_core.specs.Refines.{Refines}
 use Rattle.elf_file.specs.Object.{Object}
 use Rattle.elf_file.specs.Read.{IsFileOf}
@@ -35,7 +35,8 @@ use Rattle.command_words.specs.Commands.{object_name}
 use Rattle.commands.specs.declared.answer.Answer.TheVariants as answer
 use Rattle.commands.specs.Doing.{Outside, Command}
 use Rattle.commands.specs.Giving.{CutShort}
-use Rattle.commands.specs.Steps.{fault_at, rule_kind, limit_kind, row_at, BreaksRule, HasForm, LacksForm, AreObjectFiles, IsFirstNoObject, IsLinkedImage, LinkedBy, file_name, IsAsked, IsGiven}
+use Rattle.commands.specs.Steps.{fault_at, rule_kind, limit_kind, row_at, BreaksRule, HasForm, LacksForm, IsTextObject, AreObjectFiles, IsFirstNoObject, IsLinkedImage, LinkedBy, file_name, IsAsked, IsGiven}
+use Rattle.ccelf_build.specs.Sources.{IsTyped, units_after}
 use Rattle.ccelf_build.specs.Contents.{Contents, StandsAt, IsAbsent, IsLong, AreAll, FirstStop, NamedBytes, put_all, DidPut}
 
 -- a unit that was compiled: its items and the bytes of its object
@@ -111,18 +112,18 @@ show_told unit files old answer.WriteFault new = ShowsIt unit files (CutShort Si
 show_told unit files old answer.Memory new = DidPut files [] old new ⊎ ShowsIt unit files (CutShort SinkWanted) old new
 show_told unit files old _ new = ⊥
 
--- the file is the object of a text of these items
-pub record IsMade (items : List Item) (file : List ℕ) : Type 0 where
+-- the file is the object of a text with this typed unit
+pub record IsMade (source : TypedUnit) (file : List ℕ) : Type 0 where
   pub text : List ℕ
-  pub form : HasForm text items
-  pub written : IsFileOf (parts_of items) file
+  pub object : IsTextObject text file
+  pub typed : object.form.unit ≡ source
 
 -- these are objects of units, one by one, whenever and wherever they were made
-abbrev pub AreMade : List (List Item) → List (List ℕ) → Type 0
+abbrev pub AreMade : List TypedUnit → List (List ℕ) → Type 0
 AreMade [] [] = Unit {0}
 AreMade [] (file ∷ files) = ⊥
-AreMade (items ∷ units) [] = ⊥
-AreMade (items ∷ units) (file ∷ files) = IsMade items file × AreMade units files
+AreMade (source ∷ sources) [] = ⊥
+AreMade (source ∷ sources) (file ∷ files) = IsMade source file × AreMade sources files
 
 -- the files of these names are objects
 pub record AreObjectsAt (contents : Contents) (names : List (List ℕ)) (objects : List Object) : Type 0 where
@@ -134,8 +135,8 @@ pub record AreObjectsAt (contents : Contents) (names : List (List ℕ)) (objects
 abbrev pub IsLinkFault : Contents → List (List ℕ) → (List Object → Type 0) → Type 0
 IsLinkFault contents names told = (objects : List Object) × AreObjectsAt contents names objects × told objects
 
--- An image is linked from the objects of these names and put. Where they are objects of units of the second form, on any input its bytes do
--- what the linked units mean.
+-- An image is linked from the objects of these names and put. Where they are objects of units, on any input its bytes do what the
+-- linked units mean.
 pub record ImageLinked (contents : Contents) (names : List (List ℕ)) (image : List ℕ) (size : ℕ) (old new : Outside) : Type 0 where
   pub objects : List Object
   pub at : AreObjectsAt contents names objects
@@ -143,7 +144,7 @@ pub record ImageLinked (contents : Contents) (names : List (List ℕ)) (image : 
   pub linked : IsLinkedImage objects bytes
   pub size_is : size ≡ length bytes
   pub put : DidPut contents (record { name = image; bytes = bytes } ∷ []) old new
-  pub refines : (units : List (List Item)) → AreMade units at.files → (input : List ℕ) → Refines (second_after units) (image_after linked.image input)
+  pub refines : (sources : List TypedUnit) → AreMade sources at.files → (input : List ℕ) → Refines (units_after sources input) (image_after linked.image input)
 
 abbrev pub link_told : List ℕ → List (List ℕ) → Contents → Command
 link_told image names files old (answer.Missing which) new = FirstStop (StandsAt files) names (λ name. (which ≡ name) × IsAbsent files name) × DidPut files [] old new
@@ -259,7 +260,9 @@ pub record IsBuilt (units : List (List ℕ)) (files : Contents) (input : List �
   pub no_fault : link_fault (linked_objects (items_of all)) ≡ None
   pub bytes : List ℕ
   pub written : IsImageOf image bytes
-  pub refines : Refines (second_after (items_of all)) (image_after image input)
+  pub sources : List TypedUnit
+  pub typed : AreAll (IsTyped files) units sources
+  pub refines : Refines (units_after sources input) (image_after image input)
 
 -- the puts of a command that came so far
 abbrev pub built_puts : {files : Contents} {input : List ℕ} {parts : ImageParts} → (units : List (List ℕ)) → List ℕ → IsBuilt units files input parts → List NamedBytes

@@ -4,7 +4,7 @@ use Rattle.std.specs.Prelude.{option_map, IfNone}
 use Rattle.std.specs.Str.{bytes_eq}
 use Rattle.std.proofs.lemmas.Option.{none-some}
 use Rattle.std.proofs.lemmas.Slice.Eq.{bytes_eq-Decides}
-use Rattle.command_words.specs.Commands.{IsUnit, Request, Compile, Link, Run, Show, Exec, Fits, FitsNone, FitsCompile, FitsShow}
+use Rattle.command_words.specs.Commands.{IsUnit, Request, Compile, Link, Run, Show, Exec, Mean, Fits, FitsNone, FitsCompile, FitsShow}
 use Rattle.command_words.specs.declared.words.Order.{Order}
 use Rattle.command_words.specs.Orders.{request_of}
 use Rattle.command_words.proofs.NameFacts.{two_names}
@@ -17,6 +17,7 @@ command_of (Link image objects) = codes "link"
 command_of (Run steps image) = codes "run"
 command_of (Show unit) = codes "show"
 command_of (Exec steps image units) = codes "exec"
+command_of (Mean steps units) = codes "mean"
 
 first_word : (words : List (List ℕ)) (r : Request) → Fits words r → (rest : List (List ℕ)) × (words ≡ command_of r ∷ rest)
 first_word words (Compile unit object) fits = (_, fits.spelled)
@@ -24,6 +25,7 @@ first_word words (Link image objects) fits = (_, fits.spelled)
 first_word words (Run steps image) fits = (_, fits.spelled)
 first_word words (Show unit) fits = (_, fits.spelled)
 first_word words (Exec steps image units) fits = (_, fits.spelled)
+first_word words (Mean steps units) fits = (_, fits.spelled)
 
 first_of : List (List ℕ) → List ℕ
 first_of [] = []
@@ -69,6 +71,7 @@ compile_only words rest o e only (Link image objects) fits = let k = first_bytes
 compile_only words rest o e only (Run steps image) fits = let k = first_bytes _ _ (spelled_as words rest _ (Run steps image) e fits) in absurd (omega (arith, k))
 compile_only words rest o e only (Show unit) fits = let k = first_bytes _ _ (spelled_as words rest _ (Show unit) e fits) in absurd (omega (arith, k))
 compile_only words rest o e only (Exec steps image units) fits = let k = first_bytes _ _ (spelled_as words rest _ (Exec steps image units) e fits) in absurd (omega (arith, k))
+compile_only words rest o e only (Mean steps units) fits = let k = first_bytes _ _ (spelled_as words rest _ (Mean steps units) e fits) in absurd (omega (arith, k))
 
 -- show
 pub show_only : (words rest : List (List ℕ)) (o : Option Request) → words ≡ codes "show" ∷ rest → ((unit : List ℕ) → FitsShow (codes "show" ∷ rest) unit → o ≡ Some (Show unit))
@@ -78,3 +81,4 @@ show_only words rest o e only (Link image objects) fits = let k = first_bytes _ 
 show_only words rest o e only (Run steps image) fits = let k = first_bytes _ _ (spelled_as words rest _ (Run steps image) e fits) in absurd (omega (arith, k))
 show_only words rest o e only (Show unit) fits = only unit (subst (λ ws. FitsShow ws unit) e fits)
 show_only words rest o e only (Exec steps image units) fits = let k = first_bytes _ _ (spelled_as words rest _ (Exec steps image units) e fits) in absurd (omega (arith, k))
+show_only words rest o e only (Mean steps units) fits = let k = first_bytes _ _ (spelled_as words rest _ (Mean steps units) e fits) in absurd (omega (arith, k))

@@ -28,6 +28,7 @@ pub data Request : Type 0 where
   Run : (steps : ℕ) (image : List ℕ) → Request
   Show : (unit : List ℕ) → Request
   Exec : (steps : ℕ) (image : List ℕ) (units : List (List ℕ)) → Request
+  Mean : (steps : ℕ) (units : List (List ℕ)) → Request
 
 -- compile UNIT OBJECT
 pub record FitsCompile (words : List (List ℕ)) (unit object : List ℕ) : Type 0 where
@@ -60,6 +61,14 @@ pub record FitsExec (words : List (List ℕ)) (steps : ℕ) (image : List ℕ) (
   pub are_units : All IsUnit units
   pub names : AreNames (image ∷ units ++ map object_name units)
 
+-- mean STEPS UNIT..
+pub record FitsMean (words : List (List ℕ)) (steps : ℕ) (units : List (List ℕ)) : Type 0 where
+  pub spelled : words ≡ codes "mean" ∷ decimal steps ∷ units
+  pub in_range : steps ≤ 4294967295
+  pub few : AreFew units
+  pub are_units : All IsUnit units
+  pub names : AreNames units
+
 -- the words ask for this
 abbrev pub Fits : List (List ℕ) → Request → Type 0
 Fits words (Compile unit object) = FitsCompile words unit object
@@ -67,6 +76,7 @@ Fits words (Link image objects) = FitsLink words image objects
 Fits words (Run steps image) = FitsRun words steps image
 Fits words (Show unit) = FitsShow words unit
 Fits words (Exec steps image units) = FitsExec words steps image units
+Fits words (Mean steps units) = FitsMean words steps units
 
 -- words that no command fits
 abbrev pub FitsNone : List (List ℕ) → Type 0

@@ -4,7 +4,7 @@ use Rattle.std.specs.declared.alloc.Global.{Global}
 use denote.Ref.{Bor}
 use Rattle.command_words.specs.declared.words.Order.{Order}
 use Rattle.command_words.specs.declared.words.Order.TheVariants as order
-use Rattle.command_words.specs.Commands.{Request, Compile, Link, Run, Show, Exec, object_name}
+use Rattle.command_words.specs.Commands.{Request, Compile, Link, Run, Show, Exec, Mean, object_name}
 
 abbrev pub texts : List (String Global) → List (List ℕ)
 texts words = map string_bytes words
@@ -20,6 +20,7 @@ request_of (order.Link image objects) = Link image.now (texts objects.now)
 request_of (order.Run steps image) = Run steps image.now
 request_of (order.Show unit) = Show unit.now
 request_of (order.Exec steps image units objects) = Exec steps image.now (texts units.now)
+request_of (order.Mean steps units) = Mean steps (texts units.now)
 
 -- an order exec names the object of each of its units, in their order
 abbrev pub NamesObjects : Order → Type 0
@@ -28,3 +29,4 @@ NamesObjects (order.Link image objects) = ⊤
 NamesObjects (order.Run steps image) = ⊤
 NamesObjects (order.Show unit) = ⊤
 NamesObjects (order.Exec steps image units objects) = texts objects.items ≡ map object_name (texts units.now)
+NamesObjects (order.Mean steps units) = ⊤

@@ -85,6 +85,14 @@ fn note_all<'a>(seen: &mut NameSet<'a>, names: &'a [String]) -> Result<bool, All
     Ok(true)
 }
 
+// Whether no two of these names are the same, and none is empty.
+pub(crate) fn are_apart(alloc: Global, names: &[String]) -> Result<bool, AllocError>
+    ensures { IfOk result (λ b. IsTrue b ↔ AreNames (texts names.now)) }
+{
+    let mut seen = NameSet::new(alloc);
+    note_all(&mut seen, names)
+}
+
 // Whether no two of the names are the same, and none is empty.
 pub(crate) fn are_names(
     alloc: Global,

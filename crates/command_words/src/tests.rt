@@ -44,6 +44,11 @@ fn told(alloc: Global, order: &Order<'_>) -> Result<String, AllocError> {
             push_names(&mut text, objects)?;
             Ok(text)
         }
+        Order::Mean { steps, units } => {
+            let mut text = format!(in alloc; "mean {steps}")?;
+            push_names(&mut text, units)?;
+            Ok(text)
+        }
     }
 }
 
@@ -67,6 +72,18 @@ fn lines_are_read(rt: HostRuntime) -> Result<(), Fail> {
         ("exec 10  a.c", ""),
         ("exec 10 out", ""),
         ("exec ten out a.c", ""),
+        ("mean 10 a.c", "mean 10 a.c"),
+        ("mean 0 b.c a.b.c", "mean 0 b.c a.b.c"),
+        ("mean 4294967295 a.c", "mean 4294967295 a.c"),
+        ("mean 4294967296 a.c", ""),
+        ("mean 010 a.c", ""),
+        ("mean a.c", ""),
+        ("mean 10", ""),
+        ("mean", ""),
+        ("mean 10 a.c a.c", ""),
+        ("mean 10 a.c b.o", ""),
+        ("mean 10 a.c .c", ""),
+        ("mean 10 ", ""),
         ("show a.o", ""),
         ("show .c", ""),
         ("show a.c b.c", ""),
@@ -107,12 +124,14 @@ fn lines_are_read(rt: HostRuntime) -> Result<(), Fail> {
 #[test]
 fn units_are_few(rt: HostRuntime) -> Result<(), Fail> {
     let alloc = rt.alloc();
-    let mut words = words(alloc, "exec 1 out")?;
-    for number in 0..4096 {
-        words.push(format!(in alloc; "{number}.c")?)?;
+    for line in ["exec 1 out", "mean 1"] {
+        let mut words = words(alloc, line)?;
+        for number in 0..4096 {
+            words.push(format!(in alloc; "{number}.c")?)?;
+        }
+        assert!(rt; read(alloc, words.as_slice())?.is_some());
+        words.push(String::from_str(alloc, "a.c")?)?;
+        assert!(rt; read(alloc, words.as_slice())?.is_none());
     }
-    assert!(rt; read(alloc, words.as_slice())?.is_some());
-    words.push(String::from_str(alloc, "a.c")?)?;
-    assert!(rt; read(alloc, words.as_slice())?.is_none());
     Ok(())
 }

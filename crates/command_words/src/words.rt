@@ -1,9 +1,9 @@
 // Reads the words.
 ghost use Rattle.std.specs.Prelude.{◌≡◌, ◌<◌, ◌≤◌, ◌↔◌, [], ◌∷◌, List, ℕ, length, None, Some, Option, option_map, decimal, IfOk, IfSome, IfNone, IsTrue, codes};
-ghost use Rattle.command_words.specs.Commands.{AreFew, Request, Compile, Link, Run, Show, Exec, Fits, FitsNone, FitsCompile, FitsLink, FitsRun, FitsShow, FitsExec};
+ghost use Rattle.command_words.specs.Commands.{AreFew, Request, Compile, Link, Run, Show, Exec, Mean, Fits, FitsNone, FitsCompile, FitsLink, FitsRun, FitsShow, FitsExec, FitsMean};
 ghost use Rattle.command_words.specs.Orders.{texts, request_of, NamesObjects};
 
-use crate::names::{are_names, are_units, is_unit, objects_of};
+use crate::names::{are_apart, are_names, are_units, is_unit, objects_of};
 use cc_base::word_text;
 use std::alloc::{AllocError, Global};
 
@@ -39,6 +39,11 @@ pub enum Order<'a> {
         units: &'a [String],
         /// Those of the units, in their order.
         objects: Vec<String>,
+    },
+    /// Says what one to 4,096 linked units do.
+    Mean {
+        steps: u32,
+        units: &'a [String],
     },
 }
 
@@ -171,6 +176,30 @@ fn read_exec<'a>(alloc: Global, words: &'a [String]) -> Result<Option<Order<'a>>
     }))
 }
 
+// The order that the words behind mean spell.
+fn read_mean<'a>(alloc: Global, words: &'a [String]) -> Result<Option<Order<'a>>, AllocError>
+    ensures some { IfOk result (λ o. IfSome o (λ order. Fits (codes "mean" ∷ texts words.now) (request_of order))) }
+    ensures objects { IfOk result (λ o. IfSome o NamesObjects) }
+    ensures only { IfOk result (λ o. (steps : ℕ) (units : List (List ℕ)) → FitsMean (codes "mean" ∷ texts words.now) steps units → option_map request_of o ≡ Some (Mean steps units)) }
+{
+    let Some((steps, units)) = words.split_first() else {
+        return Ok(None);
+    };
+    let Some(steps) = number(steps.as_str()) else {
+        return Ok(None);
+    };
+    if !are_few(units) {
+        return Ok(None);
+    }
+    if !are_units(units) {
+        return Ok(None);
+    }
+    if !are_apart(alloc, units)? {
+        return Ok(None);
+    }
+    Ok(Some(Order::Mean { steps, units }))
+}
+
 /// What the words ask for, if they fit a command. The words are those behind the program's name. The time is that of
 /// reading each name and looking it up in a hash table. The only error is want of memory.
 pub fn read<'a>(alloc: Global, words: &'a [String]) -> Result<Option<Order<'a>>, AllocError>
@@ -197,6 +226,9 @@ pub fn read<'a>(alloc: Global, words: &'a [String]) -> Result<Option<Order<'a>>,
     }
     if command == "exec" {
         return read_exec(alloc, rest);
+    }
+    if command == "mean" {
+        return read_mean(alloc, rest);
     }
     Ok(None)
 }

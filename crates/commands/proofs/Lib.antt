@@ -8,3 +8,4 @@ pub mod FaultPlaces
 pub mod NamedSymbols
 pub mod WholeLinking
 pub mod WholeCommands
+pub mod Meaningful

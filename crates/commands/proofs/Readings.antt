@@ -43,6 +43,8 @@ one_read name file names files object o (Err (answer.ImageStored _)) h = elim h 
 one_read name file names files object o (Err (answer.Ended _)) h = elim h [ ]
 one_read name file names files object o (Err answer.Spent) h = elim h [ ]
 one_read name file names files object o (Err (answer.Stuck _ _)) h = elim h [ ]
+one_read name file names files object o (Err (answer.Wrong _)) h = elim h [ ]
+one_read name file names files object o (Err (answer.Deep _)) h = elim h [ ]
 
 pub one_more_read : (names files : List (List ℕ)) (name file : List ℕ) (rest_names rest : List (List ℕ)) (objects : List Object) (object : Object) → Reading names files (name ∷ rest_names) (file ∷ rest) objects → ReadOne name file (Ok object)
     → Reading names files rest_names rest (objects ++ object ∷ [])
@@ -78,6 +80,8 @@ none_read name file rest_names rest (answer.ImageStored _) h = elim h [ ]
 none_read name file rest_names rest (answer.Ended _) h = elim h [ ]
 none_read name file rest_names rest answer.Spent h = elim h [ ]
 none_read name file rest_names rest (answer.Stuck _ _) h = elim h [ ]
+none_read name file rest_names rest (answer.Wrong _) h = elim h [ ]
+none_read name file rest_names rest (answer.Deep _) h = elim h [ ]
 
 pub failed_read : (names files : List (List ℕ)) (name file : List ℕ) (rest_names rest : List (List ℕ)) (objects : List Object) (told : Answer) → Reading names files (name ∷ rest_names) (file ∷ rest) objects → ReadOne name file (Err told) → ReadFrom names files (Err told)
 failed_read names files name file rest_names rest objects told reading r = reading (Err told) (none_read name file rest_names rest told r)

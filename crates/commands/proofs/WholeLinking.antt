@@ -60,6 +60,8 @@ from_read names files (answer.ImageStored _) h = elim h [ ]
 from_read names files (answer.Ended _) h = elim h [ ]
 from_read names files answer.Spent h = elim h [ ]
 from_read names files (answer.Stuck _ _) h = elim h [ ]
+from_read names files (answer.Wrong _) h = elim h [ ]
+from_read names files (answer.Deep _) h = elim h [ ]
 
 -- what is wrong with the objects is told
 pub from_fault : (names files : List (List ℕ)) (objects : List Object) (told : Answer) → AreObjectFiles files objects → LinkedBy names objects (Err told) → LinkedFrom names files (Err told)
@@ -89,3 +91,5 @@ from_fault names files objects (answer.ImageStored _) are h = (objects, are, h)
 from_fault names files objects (answer.Ended _) are h = (objects, are, h)
 from_fault names files objects answer.Spent are h = (objects, are, h)
 from_fault names files objects (answer.Stuck _ _) are h = (objects, are, h)
+from_fault names files objects (answer.Wrong _) are h = (objects, are, h)
+from_fault names files objects (answer.Deep _) are h = (objects, are, h)

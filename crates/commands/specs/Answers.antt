@@ -1,7 +1,7 @@
 -- The status of each answer.
 use Rattle.std.specs.Prelude.{ℕ}
 use Rattle.commands.specs.declared.answer.Answer.{Answer}
-use Rattle.commands.specs.declared.answer.Answer.TheVariants.{Words, Memory, Missing, ReadFault, WriteFault, LimitFile, LimitText, LimitDeep, Syntax, Typing, LimitUnit, LimitForm, ObjectForm, Doubled, Unresolved, Sized, Range, ImageForm, ImageSegment, ImageEntry, ObjectStored, ImageStored, Shown, Ended, Spent, Stuck}
+use Rattle.commands.specs.declared.answer.Answer.TheVariants.{Words, Memory, Missing, ReadFault, WriteFault, LimitFile, LimitText, LimitDeep, Syntax, Typing, LimitUnit, LimitForm, ObjectForm, Doubled, Unresolved, Sized, Range, ImageForm, ImageSegment, ImageEntry, ObjectStored, ImageStored, Shown, Ended, Spent, Stuck, Wrong, Deep}
 use Rattle.commands.specs.declared.answer.Status.{Status}
 use Rattle.commands.specs.declared.answer.Status.TheVariants as status
 
@@ -32,6 +32,8 @@ status_of Shown = status.Done
 status_of (Ended code) = status.Done
 status_of Spent = status.Spent
 status_of (Stuck eip cause) = status.Stuck
+status_of (Wrong turn) = status.Wrong
+status_of (Deep turn) = status.Deep
 
 -- the number that the program ends with
 abbrev pub number_of : Status → ℕ
@@ -52,3 +54,5 @@ number_of status.Range = 14
 number_of status.Image = 15
 number_of status.Spent = 16
 number_of status.Stuck = 17
+number_of status.Wrong = 18
+number_of status.Deep = 19

@@ -1,9 +1,10 @@
 -- What each command does, in this order.
 use Rattle.std.specs.Prelude.{ℕ, List, length, map}
 use Rattle.clight_print.specs.Canonical.{canonical_text}
-use Rattle.command_words.specs.Commands.{Request, Compile, Link, Run, Show, Exec, object_name}
+use Rattle.command_words.specs.Commands.{Request, Compile, Link, Run, Show, Exec, Mean, object_name}
 use Rattle.commands.specs.declared.answer.Answer.TheVariants as answer
 use Rattle.commands.specs.Doing.{Command, Says, Then, Each}
+use Rattle.commands.specs.Meanings.{Checks, MeansBy}
 use Rattle.commands.specs.Steps.{Fetches, Stores, Parses, CompilesTo, Links, Runs, Keeps, GivesOut}
 
 -- compile: get UNIT, compile it, put OBJECT
@@ -39,9 +40,14 @@ exec_does steps image units =
     Then (Stores image bytes) (λ _.
     Runs steps image bytes)))
 
+-- mean: for each unit get it, parse it and check its types; then run the linked units as the source means
+abbrev pub mean_does : ℕ → List (List ℕ) → Command
+mean_does steps units = Then (Each Checks units) (λ typed. MeansBy steps units typed)
+
 abbrev pub does : Request → Command
 does (Compile unit object) = compile_does unit object
 does (Link image objects) = link_does image objects
 does (Run steps image) = run_does steps image
 does (Show unit) = show_does unit
 does (Exec steps image units) = exec_does steps image units
+does (Mean steps units) = mean_does steps units

@@ -3,5 +3,6 @@ pub mod Giving
 pub mod Answers
 pub mod Steps
 pub mod Does
+pub mod Meanings
 pub mod LinkingSteps
 pub mod Lines

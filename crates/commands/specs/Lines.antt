@@ -10,7 +10,7 @@ use Rattle.commands.specs.declared.answer.TypingKind.TheVariants as rule
 use Rattle.commands.specs.declared.answer.UnitLimit.{UnitLimit}
 use Rattle.commands.specs.declared.answer.UnitLimit.TheVariants as limit
 use Rattle.commands.specs.declared.answer.Answer.{Answer}
-use Rattle.commands.specs.declared.answer.Answer.TheVariants.{Words, Memory, Missing, ReadFault, WriteFault, LimitFile, LimitText, LimitDeep, Syntax, Typing, LimitUnit, LimitForm, ObjectForm, Doubled, Unresolved, Sized, Range, ImageForm, ImageSegment, ImageEntry, ObjectStored, ImageStored, Shown, Ended, Spent, Stuck}
+use Rattle.commands.specs.declared.answer.Answer.TheVariants.{Words, Memory, Missing, ReadFault, WriteFault, LimitFile, LimitText, LimitDeep, Syntax, Typing, LimitUnit, LimitForm, ObjectForm, Doubled, Unresolved, Sized, Range, ImageForm, ImageSegment, ImageEntry, ObjectStored, ImageStored, Shown, Ended, Spent, Stuck, Wrong, Deep}
 
 -- a byte of a symbol's name; one that is no visible character of ASCII shows as a question mark
 abbrev pub shown_byte : ℕ → ℕ
@@ -83,6 +83,8 @@ words_of Shown = []
 words_of (Ended code) = codes "exit " ++ decimal code
 words_of Spent = codes "spent"
 words_of (Stuck eip cause) = codes "stuck " ++ address eip ++ codes " " ++ cause_words cause
+words_of (Wrong turn) = codes "wrong " ++ decimal turn
+words_of (Deep turn) = codes "deep " ++ decimal turn
 
 -- words end with a newline
 abbrev pub ended : List ℕ → List ℕ

@@ -8,7 +8,7 @@ use i386_machine::Cause;
 /// How the program ends.
 #[derive(Clone, Copy, Debug, PartialEq, Eq)]
 pub enum Status {
-    /// The command was done; for run and exec the program has ended.
+    /// The command was done; for run, exec and mean the program has ended.
     Done,
     /// No command fits the words.
     Words,
@@ -42,6 +42,10 @@ pub enum Status {
     Spent,
     /// The program came to an instruction that has no step.
     Stuck,
+    /// The source goes wrong.
+    Wrong,
+    /// The source needs more than the stack.
+    Deep,
 }
 
 impl Status {
@@ -67,6 +71,8 @@ impl Status {
             Status::Image => 15,
             Status::Spent => 16,
             Status::Stuck => 17,
+            Status::Wrong => 18,
+            Status::Deep => 19,
         }
     }
 }
@@ -154,17 +160,17 @@ pub enum Answer {
     LimitForm(Name),
     /// The file of this name is no object.
     ObjectForm(Name),
-    /// The object with this file defines this name, which an earlier one defines too.
+    /// The object or unit with this file defines this name, which an earlier one defines too.
     Doubled {
         name: Name,
         file: Name,
     },
-    /// The object with this file uses this name, which none defines.
+    /// The object or unit with this file uses this name, which none defines.
     Unresolved {
         name: Name,
         file: Name,
     },
-    /// The object with this file states another size of this name than it is defined with, both in bytes.
+    /// The object or unit with this file states another size of this name than it is defined with, both in bytes.
     Sized {
         name: Name,
         file: Name,
@@ -196,6 +202,10 @@ pub enum Answer {
         eip: u32,
         cause: Cause,
     },
+    /// The source is wrong after so many turns, and not before.
+    Wrong(u32),
+    /// The source needs more than the stack after so many turns, and not before.
+    Deep(u32),
 }
 
 impl Answer {
@@ -230,6 +240,8 @@ impl Answer {
             Answer::Ended(_) => Status::Done,
             Answer::Spent => Status::Spent,
             Answer::Stuck { .. } => Status::Stuck,
+            Answer::Wrong(_) => Status::Wrong,
+            Answer::Deep(_) => Status::Deep,
         }
     }
 }

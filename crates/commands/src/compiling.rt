@@ -37,7 +37,7 @@ pub(crate) fn parse_text(alloc: Global, name: &str, text: &[u8]) -> Result<Tree,
 }
 
 // The typed unit of a tree in the file of this name. The name is copied first: after a refusal there may be no memory for it.
-fn check_tree(alloc: Global, name: &str, tree: &Tree) -> Result<Unit, Answer>
+pub(crate) fn check_tree(alloc: Global, name: &str, tree: &Tree) -> Result<Unit, Answer>
     ensures { HasTypes name.now tree.now result }
 {
     let Ok(file) = Name::from_slice(alloc, name.as_bytes()) else {

@@ -66,7 +66,7 @@ fn read_all<'a>(alloc: Global, names: &[String], files: &'a [Bytes]) -> Result<I
 }
 
 // A copy of a name.
-fn copy(alloc: Global, name: &[u8]) -> Result<Name, Answer>
+pub(crate) fn copy(alloc: Global, name: &[u8]) -> Result<Name, Answer>
     ensures name { IfOk result (λ copied. copied ≡ name.now) }
     ensures memory { IfErr result (λ told. told ≡ Answer.Memory) }
 {
@@ -117,8 +117,8 @@ fn name_of(
     }
 }
 
-// The name of the file of an object, by its number.
-fn file_of(alloc: Global, names: &[String], number: u32) -> Result<Name, Answer>
+// The name of the file of an object or a unit, by its number.
+pub(crate) fn file_of(alloc: Global, names: &[String], number: u32) -> Result<Name, Answer>
     ensures name { IfOk result (λ name. name ≡ file_name_of (texts names.now) number) }
     ensures memory { IfErr result (λ told. told ≡ Answer.Memory) }
 {

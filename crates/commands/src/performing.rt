@@ -4,12 +4,13 @@ ghost use Rattle.command_words.specs.Commands.{object_name, Fits};
 ghost use Rattle.command_words.specs.Orders.{texts, request_of, NamesObjects};
 ghost use Rattle.cc_base.specs.Seen.{FilesSeen, SourceSeen, SinkSeen};
 ghost use Rattle.commands.specs.Doing.{outside};
-ghost use Rattle.commands.specs.Does.{compile_does, link_does, run_does, exec_does, does};
+ghost use Rattle.commands.specs.Does.{compile_does, link_does, run_does, exec_does, mean_does, does};
 
 use crate::answer::Answer;
 use crate::compiling::{compile_all, compile_to};
 use crate::files::{fetch, fetch_all, store};
 use crate::linking::link_files;
+use crate::meaning::{check_all, mean_units};
 use crate::running::run_image;
 use crate::showing::show;
 use cc_base::{Files, Sink, Source};
@@ -94,6 +95,27 @@ pub fn exec<F: Files, S: Source, O: Sink>(
     }
 }
 
+/// Gets each of these units and checks its types, and runs the linked units as the source means, for so many turns at
+/// most. It puts nothing.
+pub fn mean<F: Files, S: Source, O: Sink>(
+    alloc: Global,
+    steps: u32,
+    units: &[String],
+    files: &mut F,
+    input: &mut S,
+    output: &mut O,
+) -> Answer
+    requires few { length units.now ≤ 4096 }
+    ensures { mean_does steps (texts units.now) (outside (F.seen files.old) (S.seen input.old) (O.seen output.old))
+        result (outside (F.seen files.new) (S.seen input.new) (O.seen output.new)) }
+{
+    let typed = match check_all(alloc, files, units) {
+        Ok(typed) => typed,
+        Err(told) => return told,
+    };
+    mean_units(alloc, units, typed.as_slice(), steps, input, output)
+}
+
 /// Does what words ask for, up to its end.
 pub fn perform<F: Files, S: Source, O: Sink>(
     alloc: Global,
@@ -127,5 +149,6 @@ pub fn perform<F: Files, S: Source, O: Sink>(
             input,
             output,
         ),
+        Order::Mean { steps, units } => mean(alloc, *steps, units, files, input, output),
     }
 }

@@ -189,6 +189,8 @@ fn put_words(line: &mut Text, answer: &Answer) -> Result<(), AllocError>
             line.extend(b" ")?;
             put_cause(line, *cause)
         }
+        Answer::Wrong(turn) => put_count(line, b"wrong ", u64::from(*turn)),
+        Answer::Deep(turn) => put_count(line, b"deep ", u64::from(*turn)),
     }
 }
 
