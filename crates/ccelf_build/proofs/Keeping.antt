@@ -10,7 +10,7 @@ use Rattle.commands.specs.declared.answer.Answer.TheVariants as answer
 use Rattle.commands.specs.Doing.{Outside, Step, Command, Then, AndThen, Each}
 use Rattle.clight_print.specs.Canonical.{canonical_text}
 use Rattle.commands.specs.Steps.{Fetches, Stores, Parses, GivesOut, Compiles, Keeps, CompilesTo, Links, Runs, RunsBy}
-use Rattle.commands.specs.Meanings.{ChecksText, Checks, MeansBy}
+use Rattle.commands.specs.Meanings.{ChecksText, Checks}
 use Rattle.commands.specs.Does.{does}
 use Rattle.ccelf_build.specs.Contents.{Contents, NamedBytes, put_all}
 use Rattle.ccelf_build.specs.Kept.{names_put, Kept}

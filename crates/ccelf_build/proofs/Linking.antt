@@ -1,7 +1,6 @@
 -- What link comes to, where the files tell their bytes.
 use Rattle.std.proofs.Common.{◌≡◌, ◌∷◌, [], ℕ, List, map, length, None, Result, Ok, Err, inl, inr, refl, ap, ◌∙◌, sym, subst}
 use Rattle.cc_base.specs.Seen.{FilesSeen}
-use Rattle.second_form.specs.declared.second_items.Item.{Item}
 use Rattle.clight_unit.specs.declared.unit.Unit.{Unit as TypedUnit}
 use Rattle.second_source.specs.Laws.{source_refines}
 use Rattle.pass_core.specs.Refines.{Refines}

@@ -1,15 +1,15 @@
 -- Objects that were made of texts, by the items and by the typed units of these.
-use Rattle.std.proofs.Common.{◌≡◌, ℕ, List, [], ◌∷◌, map, refl, sym, subst}
+use Rattle.std.proofs.Common.{ℕ, List, [], ◌∷◌, refl, subst}
 use Rattle.clight_unit.specs.declared.unit.Unit.{Unit as TypedUnit}
 use Rattle.clight_typing.specs.Typing.{Typed}
 use Rattle.second_form.specs.declared.second_items.Item.{Item}
-use Rattle.second_symbols.specs.Sources.{IsSource, AreSources}
+use Rattle.second_symbols.specs.Sources.{AreSources}
 use Rattle.second_code.specs.Parts.{parts_of}
 use Rattle.elf_file.specs.Read.{IsFileOf}
 use Rattle.commands.specs.Steps.{HasForm}
 use Rattle.ccelf_build.specs.Contents.{Contents, AreAll}
 use Rattle.ccelf_build.specs.Sources.{IsTyped}
-use Rattle.ccelf_build.specs.Told.{Compiled, IsCompiled, items_of, IsMade, AreMade}
+use Rattle.ccelf_build.specs.Told.{Compiled, IsCompiled, items_of, AreMade}
 
 -- the file is the object of a text of these items
 pub record IsMadeOf (items : List Item) (file : List ℕ) : Type 0 where

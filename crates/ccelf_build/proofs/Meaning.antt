@@ -1,5 +1,5 @@
 -- What mean comes to, where the files and the input tell their bytes.
-use Rattle.std.proofs.Common.{◌≡◌, ◌⊎◌, ◌<◌, ◌+◌, ◌∷◌, [], ℕ, List, Some, None, option_map, drop, Result, Ok, Err, refl, inl, inr, ap, ◌∙◌, sym, subst}
+use Rattle.std.proofs.Common.{◌≡◌, ◌⊎◌, ◌∷◌, [], ℕ, List, Some, option_map, drop, Result, Ok, Err, refl, inl, inr, ap, ◌∙◌, sym, subst}
 use Rattle.cc_base.specs.Faces.{Linkable}
 use Rattle.cc_base.specs.Seen.{FilesSeen, SourceSeen, SinkSeen}
 use Rattle.cc_base.specs.Outside.{SinkWanted, grown}
@@ -10,19 +10,18 @@ use Rattle.cc_base.specs.declared.run.Outcome.TheVariants as outcome
 use Rattle.clight_text.specs.declared.fault.SyntaxFault.TheVariants as syntax
 use Rattle.clight_unit.specs.declared.unit.Unit.{Unit as TypedUnit}
 use Rattle.clight_sem.specs.Turns.{source_after}
-use Rattle.clight_run.specs.declared.running.MeanEnd.TheVariants as end
 use Rattle.clight_mean.specs.declared.meaning.MeanFault.TheVariants as fault
-use Rattle.clight_mean.specs.Means.{StandsSo, FirstSo, IsAsking, IsEmitting, ComesNext, Comes, faces}
+use Rattle.clight_mean.specs.Means.{StandsSo, IsAsking, IsEmitting, ComesNext, Comes, faces}
 use Rattle.commands.specs.declared.answer.Answer.{Answer}
 use Rattle.commands.specs.declared.answer.Answer.TheVariants as answer
 use Rattle.commands.specs.Doing.{Outside, Each}
 use Rattle.commands.specs.Steps.{fault_at, rule_kind, limit_kind, row_at}
-use Rattle.commands.specs.Meanings.{HasUnit, ChecksText, Checks, room, CameTo, MeansBy}
+use Rattle.commands.specs.Meanings.{ChecksText, Checks, room, MeansBy}
 use Rattle.commands.specs.Does.{mean_does}
 use Rattle.ccelf_build.specs.Contents.{Contents, StandsAt, IsAbsent, IsLong, AreAll, FirstStop, DidPut}
 use Rattle.ccelf_build.specs.Told.{HasFault, HasBroken}
 use Rattle.ccelf_build.specs.Sources.{IsTyped, units_after}
-use Rattle.ccelf_build.specs.Meant.{TookTurns, CutAfter, IsAny, MeansSo, mean_told}
+use Rattle.ccelf_build.specs.Meant.{TookTurns, CutAfter, IsAny, mean_told}
 use Rattle.ccelf_build.proofs.Chains.{rest_failed}
 use Rattle.ccelf_build.proofs.Listing.{stop_here, stop_later}
 use Rattle.ccelf_build.proofs.Units.{Tells, FetchRow, fetch_row, fetch_same, fetch_stands, nothing_done}

@@ -1,17 +1,16 @@
 -- What a run of linked units leaves of the files and the counts.
-use Rattle.std.proofs.Common.{◌≡◌, ◌⊎◌, ℕ, List, Ok, Err, refl, inl, inr, ap, ◌∙◌, sym, subst}
+use Rattle.std.proofs.Common.{◌≡◌, ◌⊎◌, ℕ, List, Err, inl, inr, ap, ◌∙◌, subst}
 use Rattle.cc_base.specs.Seen.{FilesSeen, SourceSeen, SinkSeen}
 use Rattle.cc_base.specs.Outside.{SinkWanted}
 use Rattle.cc_base.specs.declared.run.Outcome.{Outcome}
 use Rattle.cc_base.specs.declared.run.Outcome.TheVariants as outcome
 use Rattle.clight_unit.specs.declared.unit.Unit.{Unit as TypedUnit}
-use Rattle.clight_sem.specs.Turns.{source_after}
 use Rattle.clight_mean.specs.declared.meaning.MeanFault.TheVariants as fault
 use Rattle.clight_mean.specs.Means.{After, StandsSo, IsEmitting, ComesNext, Comes}
 use Rattle.commands.specs.declared.answer.Answer.{Answer}
 use Rattle.commands.specs.declared.answer.Answer.TheVariants as answer
-use Rattle.commands.specs.Doing.{Outside, outside}
-use Rattle.commands.specs.Meanings.{room, CameTo, MeansBy}
+use Rattle.commands.specs.Doing.{Outside}
+use Rattle.commands.specs.Meanings.{MeansBy}
 use Rattle.ccelf_build.specs.Tells.{counts, Raises}
 
 -- no file is touched

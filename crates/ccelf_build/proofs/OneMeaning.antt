@@ -8,7 +8,7 @@ use Rattle.cc_base.specs.declared.run.Outcome.TheVariants as outcome
 use Rattle.clight_text.specs.declared.tree.External.{External}
 use Rattle.clight_faults.specs.declared.fault.Row.{Row}
 use Rattle.clight_unit.specs.declared.unit.Unit.{Unit as TypedUnit}
-use Rattle.clight_typing.specs.Typing.{Typed, unit_of}
+use Rattle.clight_typing.specs.Typing.{unit_of}
 use Rattle.clight_mean.specs.Means.{faces}
 use Rattle.commands.specs.declared.answer.Status.{Status}
 use Rattle.commands.specs.declared.answer.Status.TheVariants as status

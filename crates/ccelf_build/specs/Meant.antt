@@ -13,7 +13,7 @@ use Rattle.commands.specs.declared.answer.Answer.TheVariants as answer
 use Rattle.commands.specs.Doing.{Outside, Command}
 use Rattle.commands.specs.Steps.{fault_at, rule_kind, limit_kind, row_at, file_name}
 use Rattle.commands.specs.Meanings.{def_name, use_name}
-use Rattle.ccelf_build.specs.Contents.{Contents, IsAbsent, IsLong, AreAll, FirstStop, DidPut}
+use Rattle.ccelf_build.specs.Contents.{Contents, IsAbsent, IsLong, FirstStop, DidPut}
 use Rattle.ccelf_build.specs.Sources.{IsTyped, units_after, AllTyped}
 use Rattle.ccelf_build.specs.Told.{HasFault, HasBroken}
 

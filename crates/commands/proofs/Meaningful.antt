@@ -1,6 +1,6 @@
 -- Units whose types are checked, and linked units that are run.
-use Rattle.std.proofs.Common.{◌≡◌, ℕ, ◌≤◌, List, length, Result, Ok, Err, refl, sym, ap, ◌∙◌, subst, inl, inr, arith, String}
-use Rattle.std.specs.Prelude.{string_bytes, All}
+use Rattle.std.proofs.Common.{◌≡◌, ℕ, ◌≤◌, List, length, Result, Ok, Err, refl, subst, inl, inr, arith, String}
+use Rattle.std.specs.Prelude.{string_bytes}
 use Rattle.std.specs.declared.alloc.Global.{Global}
 use Rattle.std.proofs.lemmas.List.{length-map}
 use Rattle.cc_base.specs.Seen.{FilesSeen, SourceSeen, SinkSeen}
@@ -13,9 +13,9 @@ use Rattle.clight_mean.specs.declared.meaning.MeanFault.TheVariants as fault
 use Rattle.command_words.specs.Orders.{texts}
 use Rattle.commands.specs.declared.answer.Answer.{Answer}
 use Rattle.commands.specs.declared.answer.Answer.TheVariants as answer
-use Rattle.commands.specs.Doing.{Outside, outside, Step, Each}
+use Rattle.commands.specs.Doing.{Outside, outside, Each}
 use Rattle.commands.specs.Steps.{Fetched}
-use Rattle.commands.specs.Meanings.{Checked, Checks, end_told, fault_told, IsOfNames, room, CameTo, MeansBy}
+use Rattle.commands.specs.Meanings.{Checked, Checks, end_told, fault_told, IsOfNames, room, MeansBy}
 use Rattle.commands.proofs.WholeCommands.{each_has}
 
 -- a unit that is got and checked

@@ -1,5 +1,5 @@
 -- What the symbols of typed units of the second form mean as callees.
-use Rattle.std.proofs.Common.{◌≡◌, ℕ, ◌+◌, zero, suc, Bool, true, false, not, ◌&&◌, cond, List, [], ◌∷◌, map, position, slice_get, get_or, Option, Some, None, refl, sym, ap, ◌∙◌, subst, arith}
+use Rattle.std.proofs.Common.{◌≡◌, ℕ, ◌+◌, zero, suc, Bool, true, false, not, ◌&&◌, cond, List, [], ◌∷◌, position, slice_get, get_or, Option, Some, None, refl, sym, ap, ◌∙◌, subst, arith}
 use Rattle.std.specs.Prelude.{option_map, unwrap_or, All, Contains, codes, slice_index_or}
 use Rattle.std.specs.Option.{option_or, option_and_then}
 use Rattle.std.specs.Str.{bytes_eq}
@@ -7,7 +7,7 @@ use Rattle.std.proofs.lemmas.Slice.Eq.{bytes_eq-Decides}
 use Rattle.cc_base.specs.Faces.{first_answer}
 use Rattle.cc_base.specs.declared.face.SymbolName.{SymbolName}
 use Rattle.cc_base.specs.declared.face.GlobalPart.{GlobalPart}
-use Rattle.block_mem.specs.Start.{UnitParts, is_own, is_seen, is_shared, object_in, object_of}
+use Rattle.block_mem.specs.Start.{is_own, is_seen, is_shared, object_in, object_of}
 use Rattle.block_mem.specs.declared.value.BlockName.{BlockName}
 use Rattle.block_mem.specs.declared.value.BlockName.TheVariants.{Global}
 use Rattle.clight_unit.specs.declared.unit.Unit.{Unit as TypedUnit}
@@ -17,12 +17,12 @@ use Rattle.clight_unit.specs.declared.signature.Callee.TheVariants as callee
 use Rattle.clight_unit.specs.declared.signature.Signature.{Signature}
 use Rattle.clight_sem.specs.declared.meaning.Meaning.{Meaning as Typed}
 use Rattle.clight_sem.specs.declared.meaning.Meaning.TheVariants as meaning
-use Rattle.clight_sem.specs.Functions.{is_function_named, function_in, shown_function, own_object, shown_object, own_callee, shown_callee, built_in, meant_as_callee, function_at, signature_of, putbyte_signature, has_type, as_declared, callees_from, callees_of, all_parts, parts_of, of_each, linked, callee_at}
+use Rattle.clight_sem.specs.Functions.{is_function_named, function_in, shown_function, own_callee, shown_callee, built_in, meant_as_callee, signature_of, putbyte_signature, has_type, as_declared, callees_from, callees_of, all_parts, parts_of, of_each, linked, callee_at}
 use Rattle.second_form.specs.declared.second_items.Item.{Item}
 use Rattle.second_form.specs.declared.second_items.SmallStmt.{SmallStmt}
 use Rattle.second_form.specs.SecondForm.{reserved_words}
 use Rattle.second_form.specs.SecondRun.{Meaning, body_or, own, shown, meaning_or, shown_by, means}
-use Rattle.second_runs.specs.Mirrors.{int_void, HasSymbol, Does, Mirrors, AllMirror, IsFree}
+use Rattle.second_runs.specs.Mirrors.{int_void, HasSymbol, AllMirror, IsFree}
 use Rattle.second_runs.specs.Found.{IsMeant, SameMeaning, typed_meaning, meant_same, mirror_at}
 
 -- No unit has objects

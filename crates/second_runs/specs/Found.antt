@@ -1,5 +1,5 @@
 -- What a name means in the second form and what it means in the typed units: the same function.
-use Rattle.std.proofs.Common.{◌≡◌, ℕ, ◌+◌, zero, suc, Bool, true, false, not, ◌&&◌, cond, List, [], ◌∷◌, map, position, slice_get, Option, Some, None, refl, sym, ap, ◌∙◌, subst, arith}
+use Rattle.std.proofs.Common.{◌≡◌, ℕ, ◌+◌, zero, suc, Bool, true, false, not, ◌&&◌, cond, List, [], ◌∷◌, position, slice_get, Option, Some, None, refl, sym, ap, ◌∙◌, subst, arith}
 use Rattle.std.specs.Prelude.{option_map, slice_index_or}
 use Rattle.std.specs.List.{position_from}
 use Rattle.std.specs.Option.{option_or}

@@ -1,6 +1,5 @@
 -- Typed units that say what items of the second form say.
 use Rattle.std.specs.Prelude.{◌≡◌, ℕ, Bool, List, [], ◌∷◌, All, Contains, slice_get, codes, Option, Some, None}
-use Rattle.cc_base.specs.declared.face.SymbolName.{SymbolName}
 use Rattle.block_mem.specs.declared.operator.Op.TheVariants.{Keep}
 use Rattle.clight_unit.specs.declared.unit.Unit.{Unit as TypedUnit}
 use Rattle.clight_unit.specs.declared.function.Function.{Function}
@@ -11,7 +10,6 @@ use Rattle.clight_unit.specs.declared.expression.Expression.TheVariants as expre
 use Rattle.clight_unit.specs.declared.statement.Statement.{Statement}
 use Rattle.clight_unit.specs.declared.statement.Statement.TheVariants as typed
 use Rattle.clight_unit.specs.declared.statement.Simple.TheVariants as simple
-use Rattle.clight_unit.specs.declared.statement.Call.{Call as TypedCall}
 use Rattle.clight_unit.specs.declared.statement.Value.{Value}
 use Rattle.clight_sem.specs.Functions.{plain_type, putbyte_signature, function_name}
 use Rattle.second_form.specs.declared.second_items.SmallStmt.{SmallStmt}

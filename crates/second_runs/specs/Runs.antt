@@ -1,19 +1,16 @@
 -- Units of the second form do, turn by turn, what `clight_sem` says of typed units that mirror them.
-use Rattle.std.proofs.Common.{◌≡◌, ℕ, ◌+◌, ◌%◌, zero, suc, Bool, true, false, cond, List, [], ◌∷◌, ◌++◌, map, slice_get, Option, Some, None, refl, sym, ap, ◌∙◌, subst, arith}
-use Rattle.std.specs.Prelude.{nat_le, unwrap_or, if◌then◌else◌, Contains, codes}
+use Rattle.std.proofs.Common.{◌≡◌, ℕ, ◌+◌, zero, suc, Bool, true, false, cond, List, [], ◌∷◌, slice_get, Option, Some, None, refl, sym, ap, ◌∙◌, subst}
+use Rattle.std.specs.Prelude.{nat_le, unwrap_or, if◌then◌else◌}
 use Rattle.std.specs.Option.{option_and_then}
-use Rattle.cc_base.specs.Runs.{State}
 use Rattle.cc_base.specs.declared.run.Act.{Act}
-use Rattle.cc_base.specs.declared.run.Act.TheVariants as act
 use Rattle.cc_base.specs.declared.run.Outcome.{Outcome}
 use Rattle.cc_base.specs.declared.run.Outcome.TheVariants as outcome
-use Rattle.pass_core.specs.Semantics.{iterate, run_of, if_running}
+use Rattle.pass_core.specs.Semantics.{iterate, if_running}
 use Rattle.block_mem.specs.Blocks.{Blocks}
 use Rattle.block_mem.specs.Start.{start}
 use Rattle.block_mem.specs.declared.value.Value.TheVariants.{Int}
 use Rattle.block_mem.specs.declared.operator.Op.TheVariants.{Keep}
 use Rattle.clight_unit.specs.declared.unit.Unit.{Unit as TypedUnit}
-use Rattle.clight_unit.specs.declared.function.Function.{Function}
 use Rattle.clight_unit.specs.declared.statement.Statement.{Statement, out-Statement}
 use Rattle.clight_unit.specs.declared.statement.Statement.TheVariants as typed
 use Rattle.clight_unit.specs.declared.statement.Statement.TheOpen.{Statement-F}
@@ -24,19 +21,19 @@ use Rattle.clight_unit.specs.declared.expression.Expression.TheVariants as expre
 use Rattle.clight_unit.specs.declared.expression.Expression.TheOpen.{Expression-F}
 use Rattle.clight_unit.specs.declared.expression.Expression.TheFolds.{fold-roll-Expression}
 use Rattle.block_mem.specs.declared.value.Value.{Value}
-use Rattle.clight_sem.specs.Values.{Scene, value_of, converted, convert_if, all_converted, with_value, expression_step, place_step, test_step}
+use Rattle.clight_sem.specs.Values.{Scene, value_of, convert_if, with_value, expression_step, place_step, test_step}
 use Rattle.clight_sem.specs.declared.destination.Destination.TheVariants as to
 use Rattle.clight_sem.specs.declared.meaning.Meaning.{Meaning as Typed}
 use Rattle.clight_sem.specs.declared.meaning.Meaning.TheVariants as meaning
 use Rattle.clight_sem.specs.Functions.{Linked, linked, all_parts, function_at, callee_at, shown_function, main_name}
-use Rattle.clight_sem.specs.States.{Item as LeftItem, Whole, whole, Frame as TypedFrame, World, Turned, On, Ends, Run as TypedRun, Going as GoingOn, Over as IsOver, seen, with_left, on, scene_of, needs as typed_needs}
-use Rattle.clight_sem.specs.Turns.{given, new_frame, with_locals, entered as typed_entered, called_with, called_if, left_with, left_if, back_in, statement_turn, turn_of as typed_turn_of, turn as typed_turn, after_turn, advance, entered_main, begun as typed_begun, source, source_after}
+use Rattle.clight_sem.specs.States.{whole, Frame as TypedFrame, World, On, Ends, Run as TypedRun, Going as GoingOn, Over as IsOver, seen, with_left, on, scene_of, needs as typed_needs}
+use Rattle.clight_sem.specs.Turns.{given, new_frame, with_locals, entered as typed_entered, called_with, called_if, left_with, left_if, back_in, statement_turn, turn_of as typed_turn_of, after_turn, entered_main, begun as typed_begun, source, source_after}
 use Rattle.second_form.specs.declared.second_items.SmallStmt.{SmallStmt}
 use Rattle.second_form.specs.declared.second_items.SmallStmt.TheVariants.{Put, Call, Return}
 use Rattle.second_form.specs.declared.second_items.Item.{Item}
 use Rattle.second_form.specs.SecondForm.{EndsReturning}
-use Rattle.second_form.specs.SecondRun.{Meaning, means, main_of, stack_room, Frame, frame_of, needs, Run, Going, Over, entered, called, returned, turn_of, turn, begun, run_after, seen_of, second_after}
-use Rattle.second_runs.specs.Mirrors.{number, call, IsStatement, AreStatements, Does, AllMirror}
+use Rattle.second_form.specs.SecondRun.{Meaning, means, main_of, stack_room, Frame, frame_of, needs, Run, Going, Over, called, returned, turn_of, turn, begun, run_after, seen_of, second_after}
+use Rattle.second_runs.specs.Mirrors.{AreStatements, AllMirror}
 use Rattle.second_runs.specs.Found.{IsMeant, SameMeaning, typed_meaning, meant_same, shown_by_all}
 use Rattle.second_runs.specs.Callees.{calls_same, puts_same}
 

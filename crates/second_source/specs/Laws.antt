@@ -1,16 +1,14 @@
 -- What linked units of the second form mean is what `clight_sem` says of their typed units.
-use Rattle.std.proofs.Common.{◌≡◌, ℕ, zero, suc, Bool, true, false, ◌||◌, List, [], ◌∷◌, ◌++◌, slice_get, Option, Some, None, refl, sym, ap, ◌∙◌, subst, arith, append-nil}
-use Rattle.std.specs.Prelude.{codes, All, Contains, ◌<◌}
+use Rattle.std.proofs.Common.{◌≡◌, ℕ, zero, suc, false, ◌||◌, List, [], ◌∷◌, ◌++◌, slice_get, Option, Some, None, refl, sym, ap, ◌∙◌, subst, arith}
+use Rattle.std.specs.Prelude.{codes, All}
 use Rattle.std.specs.Option.{option_map}
-use Rattle.std.specs.Str.{bytes_eq}
-use Rattle.clight_text.specs.declared.tree.External.{External}
 use Rattle.clight_symbols.specs.Names.{is_among}
 use Rattle.clight_unit.specs.declared.unit.Unit.{Unit as TypedUnit}
 use Rattle.clight_unit.specs.declared.function.Function.{Function}
 use Rattle.clight_declarations.specs.Whole.{whole_of}
 use Rattle.clight_typing.specs.declared.walk.Walk.{Walk}
 use Rattle.clight_typing.specs.Walk.{walk_before, walk_behind}
-use Rattle.clight_typing.specs.Typing.{unit_with, unit_behind}
+use Rattle.clight_typing.specs.Typing.{unit_with}
 use Rattle.clight_sem.specs.Turns.{source_after}
 use Rattle.pass_core.specs.Refines.{Sound, Agrees, Refines}
 use Rattle.cc_base.specs.Runs.{State, IsPrefix}

@@ -1,6 +1,6 @@
 -- What names mean from one declaration of the second form to the next.
-use Rattle.std.proofs.Common.{◌≡◌, ℕ, zero, suc, Bool, true, false, ◌||◌, cond, List, [], ◌∷◌, map, Option, Some, None, refl, sym, ap, ◌∙◌, subst, arith}
-use Rattle.std.specs.Prelude.{codes, Contains, is_some, ◌<◌}
+use Rattle.std.proofs.Common.{◌≡◌, ℕ, Bool, true, false, ◌||◌, cond, List, [], ◌∷◌, map, Some, None, refl, sym, ap, ◌∙◌, arith}
+use Rattle.std.specs.Prelude.{codes, Contains, is_some}
 use Rattle.std.specs.Option.{option_map, option_or}
 use Rattle.std.specs.Str.{bytes_eq}
 use Rattle.std.proofs.lemmas.Slice.Eq.{bytes_eq-Decides}
@@ -13,17 +13,15 @@ use Rattle.clight_types.specs.Operators.{int}
 use Rattle.clight_symbols.specs.Names.{is_among}
 use Rattle.clight_symbols.specs.Sights.{is_static}
 use Rattle.clight_tags.specs.Tags.{tags_of}
-use Rattle.clight_scopes.specs.declared.entity.Entity.{Entity}
 use Rattle.clight_scopes.specs.declared.entity.Entity.TheVariants as entity
 use Rattle.clight_scopes.specs.declared.entity.Declared.{Declared}
-use Rattle.clight_scopes.specs.declared.entity.Prototype.{Prototype}
 use Rattle.clight_scopes.specs.Tables.{found, with_entry}
 use Rattle.clight_scopes.specs.TableLaws.{found_with}
 use Rattle.clight_scopes.specs.Visible.{Visible}
 use Rattle.clight_scopes.specs.Names.{entity_of, declared_of, base_of}
-use Rattle.clight_scopes.specs.Growth.{nothing, with_built_in, outside, with_tag, with_new_tag, with_declared, entity_with_declared}
+use Rattle.clight_scopes.specs.Growth.{nothing, outside, with_tag, with_new_tag, entity_with_declared}
 use Rattle.clight_declarations.specs.declared.whole.Whole.{Whole}
-use Rattle.clight_declarations.specs.Whole.{symbol_of, getbyte_of, putbyte_of, with_built_ins}
+use Rattle.clight_declarations.specs.Whole.{symbol_of, getbyte_of, putbyte_of}
 use Rattle.clight_declarations.specs.Start.{with_tags, scope_before}
 use Rattle.clight_declarations.specs.Objects.{was_defined, was_static}
 use Rattle.clight_declarations.specs.Functions.{parameter_type, prototype_of, named_by}

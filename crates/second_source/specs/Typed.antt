@@ -1,22 +1,19 @@
 -- What the bodies of the second form are in the typed unit, under what names mean there.
-use Rattle.std.proofs.Common.{◌≡◌, ℕ, zero, suc, ◌+◌, ◌<◌, Bool, true, false, cond, List, [], ◌∷◌, ◌++◌, map, length, Option, Some, None, refl, sym, ap, ◌∙◌, subst, arith, append-nil, append_assoc}
+use Rattle.std.proofs.Common.{◌≡◌, ℕ, suc, ◌+◌, Bool, true, false, cond, List, [], ◌∷◌, ◌++◌, map, length, Option, Some, None, refl, sym, ap, ◌∙◌, subst, arith, append-nil, append_assoc}
 use Rattle.std.specs.Prelude.{codes, All, Contains}
 use Rattle.std.specs.Option.{option_map, option_and_then}
 use Rattle.std.specs.List.{sum_by}
-use Rattle.std.specs.Str.{bytes_eq}
 use Rattle.std.proofs.lemmas.List.Sums.{sum_by-cons}
 use Rattle.clight_text.specs.declared.tree.Expr.{Expr}
 use Rattle.clight_text.specs.declared.tree.Expr.TheVariants as expr
 use Rattle.clight_text.specs.declared.tree.Expr.TheOpen.{Expr-F}
 use Rattle.clight_text.specs.declared.tree.Expr.TheFolds.{fold-roll-Expr}
 use Rattle.clight_text.specs.declared.tree.Call.{Call as CallTree}
-use Rattle.clight_text.specs.declared.tree.Simple.{Simple}
 use Rattle.clight_text.specs.declared.tree.Simple.TheVariants as simple
 use Rattle.clight_text.specs.declared.tree.Stmt.{Stmt}
 use Rattle.clight_text.specs.declared.tree.Stmt.TheVariants as stmt
 use Rattle.clight_text.specs.declared.tree.Stmt.TheOpen.{Stmt-F}
 use Rattle.clight_text.specs.declared.tree.Stmt.TheFolds.{fold-roll-Stmt}
-use Rattle.clight_types.specs.Types.{Derived}
 use Rattle.clight_types.specs.Operators.{int}
 use Rattle.clight_symbols.specs.Names.{is_among}
 use Rattle.clight_scopes.specs.declared.entity.Entity.{Entity}
@@ -30,14 +27,14 @@ use Rattle.clight_unit.specs.declared.statement.Statement.TheVariants as typed
 use Rattle.clight_unit.specs.declared.statement.Value.{Value}
 use Rattle.clight_unit.specs.declared.statement.Arm.{Arm as TypedArm}
 use Rattle.clight_unit.specs.declared.statement.Simple.TheVariants as typed_simple
-use Rattle.clight_expressions.specs.Expressions.{Finding as ExprFinding, expr_step, finding, node_of}
+use Rattle.clight_expressions.specs.Expressions.{Finding as ExprFinding, expr_step, node_of}
 use Rattle.clight_declarations.specs.declared.whole.Whole.{Whole}
 use Rattle.clight_declarations.specs.Whole.{symbol_of, putbyte_of}
 use Rattle.clight_statements.specs.declared.calls.Called.{Called}
 use Rattle.clight_statements.specs.Gathering.{with_next, converted}
-use Rattle.clight_statements.specs.Calls.{prototype_at, callee, parameters_of, argument, arguments, called_as, called}
+use Rattle.clight_statements.specs.Calls.{prototype_at, parameters_of, arguments, called_as, called}
 use Rattle.clight_statements.specs.Assignments.{call_alone}
-use Rattle.clight_statements.specs.Statements.{Found, Finding, all_items, block, stmt_step, arm_step, stmt_finding, returned}
+use Rattle.clight_statements.specs.Statements.{Found, all_items, stmt_step, arm_step, stmt_finding, returned}
 use Rattle.clight_bodies.specs.Functions.{body_of}
 use Rattle.second_form.specs.declared.second_items.SmallStmt.{SmallStmt}
 use Rattle.second_form.specs.declared.second_items.SmallStmt.TheVariants.{Put, Call, Return}

@@ -1,8 +1,8 @@
 -- A unit of the second form from its first declaration to its last: its typed functions are those of its items.
-use Rattle.std.proofs.Common.{◌≡◌, ℕ, zero, suc, ◌+◌, ◌*◌, ◌<◌, ◌≤◌, Bool, true, false, ◌&&◌, ◌||◌, cond, min, List, [], ◌∷◌, ◌++◌, map, length, slice_get, Option, Some, None, refl, sym, ap, ◌∙◌, subst, arith, append-nil, append_assoc}
+use Rattle.std.proofs.Common.{◌≡◌, ℕ, suc, ◌+◌, ◌*◌, ◌<◌, ◌≤◌, Bool, true, false, ◌&&◌, ◌||◌, cond, min, List, [], ◌∷◌, ◌++◌, length, slice_get, Option, Some, None, refl, sym, ap, ◌∙◌, subst, arith, append-nil, append_assoc}
 use Rattle.std.specs.Prelude.{nat_lt, nat_le, codes, All, Contains}
-use Rattle.std.specs.Option.{option_map, option_and_then, option_map_or}
-use Rattle.std.specs.List.{list_any, sum_by, flat_map}
+use Rattle.std.specs.Option.{option_map, option_map_or}
+use Rattle.std.specs.List.{sum_by, flat_map}
 use Rattle.std.proofs.lemmas.Bool.{ltb-false, leb-true, leb-false}
 use Rattle.std.proofs.lemmas.List.Folds.{list_any-append}
 use Rattle.std.proofs.lemmas.Slice.Eq.{bytes_eq-Decides}
@@ -11,21 +11,18 @@ use Rattle.std.specs.Str.{bytes_eq}
 use Rattle.cc_base.specs.declared.face.SymbolName.{SymbolName}
 use Rattle.clight_text.specs.declared.tree.BaseKind.TheVariants as kind
 use Rattle.clight_text.specs.declared.tree.Locals.{Locals}
-use Rattle.clight_text.specs.declared.tree.Parameter.{Parameter}
 use Rattle.clight_text.specs.declared.tree.Stmt.{Stmt}
 use Rattle.clight_text.specs.declared.tree.Head.{Head}
 use Rattle.clight_text.specs.declared.tree.External.{External}
 use Rattle.clight_text.specs.declared.tree.External.TheVariants as top
-use Rattle.clight_faults.specs.declared.fault.Row.{Row}
 use Rattle.clight_faults.specs.declared.fault.TypeKind.TheVariants as fault
 use Rattle.clight_declarations.specs.Rows.{row_if}
-use Rattle.clight_types.specs.Types.{Derived, plain}
+use Rattle.clight_types.specs.Types.{plain}
 use Rattle.clight_types.specs.Operators.{int}
 use Rattle.clight_symbols.specs.Names.{is_among}
 use Rattle.clight_symbols.specs.declared.known.Role.{Role}
 use Rattle.clight_symbols.specs.declared.known.Role.TheVariants as role
-use Rattle.clight_symbols.specs.declared.sight.How.TheVariants as how
-use Rattle.clight_symbols.specs.Sights.{Seen, seen, external_sights, sights_of}
+use Rattle.clight_symbols.specs.Sights.{Seen, external_sights, sights_of}
 use Rattle.clight_symbols.specs.Symbols.{plays}
 use Rattle.clight_scopes.specs.Visible.{Visible}
 use Rattle.clight_scopes.specs.Names.{base_of}
@@ -36,13 +33,12 @@ use Rattle.clight_unit.specs.declared.function.Function.{Function}
 use Rattle.clight_unit.specs.declared.statement.Statement.{Statement}
 use Rattle.clight_unit.specs.declared.signature.Callee.TheVariants as callee
 use Rattle.clight_unit.specs.declared.signature.Signature.{Signature}
-use Rattle.clight_sem.specs.Functions.{putbyte_signature, function_name}
+use Rattle.clight_sem.specs.Functions.{putbyte_signature}
 use Rattle.clight_declarations.specs.declared.whole.Whole.{Whole}
 use Rattle.clight_declarations.specs.Whole.{whole_of, symbol_of}
 use Rattle.clight_declarations.specs.Functions.{named_by, head_behind, parameters_behind}
 use Rattle.clight_statements.specs.Gathering.{with_next}
 use Rattle.clight_bodies.specs.Functions as bodies
-use Rattle.clight_bodies.specs.Signatures.{signature_of}
 use Rattle.clight_typing.specs.declared.walk.Walk.{Walk}
 use Rattle.clight_typing.specs.Objects.{most_nodes, nodes_rows}
 use Rattle.clight_typing.specs.Faces.{symbol_names, callees_of, undeclared}
@@ -52,13 +48,13 @@ use Rattle.second_form.specs.declared.second_items.SmallStmt.TheVariants.{Put, C
 use Rattle.second_form.specs.declared.second_items.Item.{Item}
 use Rattle.second_form.specs.SecondForm.{reserved_words, IsBody, IsBodyIfAny, IsItem, CallsName}
 use Rattle.second_form.specs.SecondRun.{need_of, nodes_of}
-use Rattle.second_runs.specs.Mirrors.{int_void, HasSymbol, IsStatement, AreStatements, Does, IsFunction, Bodied, AreFunctions, IsFree}
-use Rattle.second_symbols.specs.Sources.{IsHead, IsBodyOf, Declares, AllDeclare, Each}
+use Rattle.second_runs.specs.Mirrors.{int_void, HasSymbol, IsStatement, AreStatements, IsFunction, Bodied, AreFunctions}
+use Rattle.second_symbols.specs.Sources.{IsHead, IsBodyOf, AllDeclare, Each}
 use Rattle.second_symbols.specs.Sighted.{sighted, has_symbol}
 use Rattle.second_symbols.specs.Symbols.{IsSymbol, symbol_is, local_is_static, symbol_named, names_behind, still_among, declared_as, head_signature, symbol_declared}
 use Rattle.second_symbols.specs.ItemSights.{names_in, function_sights, AllUsed, all_used}
 use Rattle.second_source.specs.Typed.{Knows, TypedAs, AllTypedAs, body_is, body_nodes}
-use Rattle.second_source.specs.Scopes.{putbyte_not, knows_behind}
+use Rattle.second_source.specs.Scopes.{knows_behind}
 
 -- an item is as it must be, and is static exactly where the text says so
 pub record Fact (tree : List External) (item : Item) : Type 0 where

@@ -1,5 +1,5 @@
 -- What the text of the second form says of its names.
-use Rattle.std.proofs.Common.{◌≡◌, ℕ, zero, suc, ◌<◌, Bool, true, false, ◌&&◌, ◌||◌, cond, List, [], ◌∷◌, ◌++◌, slice_get, Option, Some, None, refl, sym, ap, ◌∙◌, subst, arith}
+use Rattle.std.proofs.Common.{◌≡◌, ℕ, zero, suc, Bool, true, false, ◌&&◌, ◌||◌, List, [], ◌∷◌, ◌++◌, slice_get, Option, Some, None, refl, sym, ap, ◌∙◌}
 use Rattle.std.specs.Prelude.{codes, option_map}
 use Rattle.std.specs.List.{list_any, flat_map}
 use Rattle.std.specs.Option.{option_and_then}
@@ -19,17 +19,16 @@ use Rattle.clight_text.specs.declared.tree.Locals.{Locals}
 use Rattle.clight_text.specs.declared.tree.Head.{Head}
 use Rattle.clight_text.specs.declared.tree.External.{External}
 use Rattle.clight_text.specs.declared.tree.External.TheVariants as top
-use Rattle.clight_symbols.specs.declared.known.Role.{Role}
 use Rattle.clight_symbols.specs.declared.known.Role.TheVariants as role
 use Rattle.clight_symbols.specs.declared.sight.How.TheVariants as how
-use Rattle.clight_symbols.specs.Sights.{Seen, seen, expr_step, expr_sights, stmt_step, arm_step, stmt_sights, name_sights, hidden_by, body_sights, is_static, external_sights, sights_of}
+use Rattle.clight_symbols.specs.Sights.{Seen, seen, expr_step, expr_sights, stmt_step, arm_step, stmt_sights, hidden_by, body_sights, is_static, external_sights, sights_of}
 use Rattle.clight_symbols.specs.Symbols.{plays}
 use Rattle.second_form.specs.declared.second_items.SmallStmt.{SmallStmt}
 use Rattle.second_form.specs.declared.second_items.SmallStmt.TheVariants.{Put, Call, Return}
 use Rattle.second_form.specs.declared.second_items.Item.{Item}
-use Rattle.second_form.specs.SecondForm.{all_of, statement_of, IsAt, StaticAlike}
+use Rattle.second_form.specs.SecondForm.{all_of, statement_of, StaticAlike}
 use Rattle.second_symbols.specs.Shapes.{IsNumber, IsCall, HasShape, shape_of}
-use Rattle.second_symbols.specs.Sources.{IsHead, IsBodyOf, Declares, AllDeclare, Each, each_from}
+use Rattle.second_symbols.specs.Sources.{IsHead, IsBodyOf, Declares, AllDeclare}
 use Rattle.second_symbols.specs.Sighted.{sighted}
 
 -- Bodies

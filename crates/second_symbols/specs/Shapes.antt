@@ -1,5 +1,5 @@
 -- What the statements of a body of the second form are in the tree.
-use Rattle.std.proofs.Common.{◌≡◌, ℕ, Bool, true, false, cond, List, [], ◌∷◌, Option, Some, None, refl, sym, ap, ◌∙◌, subst}
+use Rattle.std.proofs.Common.{◌≡◌, ℕ, Bool, true, false, cond, List, [], ◌∷◌, Option, Some, None, refl, ap, subst}
 use Rattle.std.specs.Prelude.{codes}
 use Rattle.std.specs.Option.{option_map}
 use Rattle.std.specs.Str.{bytes_eq}
@@ -7,7 +7,6 @@ use Rattle.std.proofs.lemmas.Slice.Eq.{bytes_eq-Decides}
 use Rattle.clight_text.specs.declared.tree.Expr.{Expr}
 use Rattle.clight_text.specs.declared.tree.Expr.TheVariants as expr
 use Rattle.clight_text.specs.declared.tree.Call.{Call as CallTree}
-use Rattle.clight_text.specs.declared.tree.Simple.{Simple}
 use Rattle.clight_text.specs.declared.tree.Simple.TheVariants as simple
 use Rattle.clight_text.specs.declared.tree.Stmt.{Stmt}
 use Rattle.clight_text.specs.declared.tree.Stmt.TheVariants as stmt

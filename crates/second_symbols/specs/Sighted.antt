@@ -1,14 +1,11 @@
 -- Which names are among a unit's symbols, and where, by what its text says of them.
-use Rattle.std.proofs.Common.{◌≡◌, ℕ, zero, suc, ◌+◌, ◌<◌, ◌≤◌, Bool, true, false, not, ◌&&◌, ◌||◌, cond, List, [], ◌∷◌, ◌++◌, map, filter, length, position, slice_get, Option, Some, None, refl, sym, ap, ◌∙◌, subst, arith, append_assoc, append-nil}
-use Rattle.std.specs.Prelude.{nat_lt, unwrap_or}
+use Rattle.std.proofs.Common.{◌≡◌, ℕ, suc, ◌+◌, ◌<◌, Bool, true, false, not, ◌&&◌, ◌||◌, cond, List, [], ◌∷◌, ◌++◌, map, filter, length, slice_get, Some, refl, sym, ap, ◌∙◌, subst, arith, append_assoc, append-nil}
 use Rattle.std.specs.List.{list_any, position_from}
 use Rattle.std.specs.Str.{bytes_eq}
 use Rattle.std.proofs.lemmas.Slice.Eq.{bytes_eq-Decides}
 use Rattle.std.proofs.lemmas.List.Folds.{list_any-append}
-use Rattle.std.proofs.lemmas.Iterator.Adapters.{position_from-zero}
-use Rattle.clight_text.specs.declared.tree.External.{External}
 use Rattle.clight_symbols.specs.Names.{is_among, with_name, with_names}
-use Rattle.clight_symbols.specs.Sights.{Seen, sights_of}
+use Rattle.clight_symbols.specs.Sights.{Seen}
 use Rattle.clight_symbols.specs.declared.known.Known.{Known}
 use Rattle.clight_symbols.specs.declared.known.Role.{Role}
 use Rattle.clight_symbols.specs.declared.known.Role.TheVariants as role

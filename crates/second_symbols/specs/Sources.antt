@@ -1,6 +1,6 @@
 -- The typed units of texts of the second form, and what their trees declare, item by item.
-use Rattle.std.proofs.Common.{◌≡◌, ℕ, zero, suc, ◌+◌, ◌<◌, Bool, true, false, not, ◌&&◌, cond, List, [], ◌∷◌, slice_get, Option, Some, None, refl, sym, ap, ◌∙◌, subst, arith}
-use Rattle.std.specs.Prelude.{option_map, All, ◌==◌, length}
+use Rattle.std.proofs.Common.{◌≡◌, ℕ, suc, Bool, true, false, not, ◌&&◌, cond, List, [], ◌∷◌, slice_get, Option, Some, None, refl, sym, ap, ◌∙◌, subst}
+use Rattle.std.specs.Prelude.{option_map, ◌==◌}
 use Rattle.std.specs.Option.{option_and_then}
 use Rattle.std.proofs.lemmas.Bool.{eqb-true}
 use Rattle.clight_text.specs.declared.tree.Linkage.{Linkage}
@@ -8,7 +8,6 @@ use Rattle.clight_text.specs.declared.tree.Linkage.TheVariants as linkage
 use Rattle.clight_text.specs.declared.tree.BaseKind.{BaseKind}
 use Rattle.clight_text.specs.declared.tree.BaseKind.TheVariants as base
 use Rattle.clight_text.specs.declared.tree.Parameter.{Parameter}
-use Rattle.clight_text.specs.declared.tree.Locals.{Locals}
 use Rattle.clight_text.specs.declared.tree.Stmt.{Stmt}
 use Rattle.clight_text.specs.declared.tree.Head.{Head}
 use Rattle.clight_text.specs.declared.tree.External.{External}
@@ -18,7 +17,7 @@ use Rattle.clight_unit.specs.declared.unit.Unit.{Unit as TypedUnit}
 use Rattle.clight_typing.specs.Typing.{Typed}
 use Rattle.second_form.specs.declared.second_items.SmallStmt.{SmallStmt}
 use Rattle.second_form.specs.declared.second_items.Item.{Item}
-use Rattle.second_form.specs.SecondForm.{all_of, statement_of, is_int, is_none, is_plain, is_local, item_with, item_of, items_of, IsItem, IsSecondForm, IsAt, StaticAlike}
+use Rattle.second_form.specs.SecondForm.{all_of, statement_of, is_int, is_none, is_plain, is_local, item_with, item_of, items_of, IsSecondForm}
 
 -- a tree of the second form has these items and is this typed unit
 pub record IsSource (items : List Item) (u : TypedUnit) : Type 0 where

@@ -1,6 +1,6 @@
 -- The symbols of a unit: their numbers, and what the typed unit has at these.
-use Rattle.std.proofs.Common.{◌≡◌, ◌≢◌, ℕ, zero, suc, ◌+◌, ◌<◌, ◌≤◌, Bool, true, false, ◌||◌, cond, List, [], ◌∷◌, ◌++◌, map, set, length, position, slice_get, Option, Some, None, refl, sym, ap, ◌∙◌, subst, arith, append-nil}
-use Rattle.std.specs.Prelude.{nat_lt, unwrap_or, option_map, codes, Contains}
+use Rattle.std.proofs.Common.{◌≡◌, ◌≢◌, ℕ, zero, suc, ◌+◌, Bool, true, false, ◌||◌, cond, List, [], ◌∷◌, ◌++◌, map, set, length, position, slice_get, Option, Some, None, refl, sym, ap, ◌∙◌, subst, arith, append-nil}
+use Rattle.std.specs.Prelude.{nat_lt, unwrap_or, option_map}
 use Rattle.std.specs.List.{list_any, position_from}
 use Rattle.std.specs.Option.{option_map_or}
 use Rattle.std.specs.Str.{bytes_eq}
@@ -9,29 +9,27 @@ use Rattle.std.proofs.lemmas.Option.{slice_get-map}
 use Rattle.std.proofs.lemmas.Slice.Eq.{bytes_eq-Decides}
 use Rattle.std.proofs.lemmas.List.Folds.{list_any-append}
 use Rattle.std.proofs.lemmas.Iterator.Adapters.{position_from-zero}
-use Rattle.cc_base.specs.declared.face.SymbolName.{SymbolName}
 use Rattle.clight_text.specs.declared.tree.BaseKind.TheVariants as kind
 use Rattle.clight_text.specs.declared.tree.Parameter.{Parameter}
 use Rattle.clight_text.specs.declared.tree.Head.{Head}
 use Rattle.clight_text.specs.declared.tree.External.{External}
 use Rattle.clight_text.specs.declared.tree.External.TheVariants as top
 use Rattle.clight_symbols.specs.Names.{is_among, with_names}
-use Rattle.clight_symbols.specs.Sights.{Seen, sights_of}
+use Rattle.clight_symbols.specs.Sights.{sights_of}
 use Rattle.clight_symbols.specs.declared.known.Role.TheVariants as role
 use Rattle.clight_symbols.specs.Table.{Table}
 use Rattle.clight_symbols.specs.Symbols.{is_global, names_that}
 use Rattle.clight_unit.specs.declared.signature.Callee.{Callee}
 use Rattle.clight_unit.specs.declared.signature.Callee.TheVariants as callee
-use Rattle.clight_unit.specs.declared.signature.Signature.{Signature}
 use Rattle.clight_bodies.specs.Signatures.{value_base, parameter_type, signature_of}
 use Rattle.clight_declarations.specs.declared.whole.Whole.{Whole}
 use Rattle.clight_declarations.specs.Whole.{whole_of, symbol_of}
 use Rattle.clight_typing.specs.Objects.{is_local_symbol}
-use Rattle.clight_typing.specs.Faces.{symbol_names, undeclared, with_head, with_external, with_externals, callees_of}
+use Rattle.clight_typing.specs.Faces.{symbol_names, undeclared, with_head, with_externals, callees_of}
 use Rattle.second_form.specs.declared.second_items.Item.{Item}
 use Rattle.second_runs.specs.Mirrors.{int_void}
-use Rattle.second_symbols.specs.Sources.{IsHead, Declares, AllDeclare}
-use Rattle.second_symbols.specs.Sighted.{sighted, is_seen, known, all_names, local_names, local_symbols, has_symbol, among_all, adds_all, Placed, placed, placed_among, placed_behind}
+use Rattle.second_symbols.specs.Sources.{IsHead, AllDeclare}
+use Rattle.second_symbols.specs.Sighted.{sighted, known, local_names, local_symbols, has_symbol, adds_all, Placed, placed, placed_among, placed_behind}
 
 same_name : (n m : List ℕ) → bytes_eq n m ≡ true → n ≡ m
 same_name n m e = (bytes_eq-Decides n m).0 e

@@ -1,4 +1,4 @@
-use Rattle.std.proofs.Common.{◌≡◌, ◌∙◌, ◌+◌, ◌∷◌, List, ℕ, drop, sym, ap, subst, refl, arith, length}
+use Rattle.std.proofs.Common.{◌≡◌, ◌∙◌, ◌+◌, ◌∷◌, List, ℕ, drop, sym, ap, subst, arith, length}
 use Rattle.std.specs.Prelude.{Result, Err}
 use Rattle.clight_unit.specs.declared.unit.Unit.{Unit as TypedUnit}
 use Rattle.command_words.specs.Orders.{texts}
