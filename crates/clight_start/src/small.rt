@@ -1,11 +1,11 @@
 // Units whose objects, functions, definitions and uses are numbered by 32 bits.
-ghost use Rattle.std.specs.Prelude.{◌≡◌, ◌<◌, ◌^◌, length, true};
+ghost use Rattle.std.specs.Bool.{Decides};
 ghost use Rattle.clight_start.specs.Small.{IsSmall, AreSmall};
 
 use clight_unit::Unit;
 
 fn is_small(unit: &Unit) -> bool
-    ensures { result ≡ true → IsSmall unit.now }
+    ensures { Decides result (IsSmall unit.now) }
 {
     let limit = u32::MAX as usize;
     unit.globals.len() <= limit
@@ -16,7 +16,7 @@ fn is_small(unit: &Unit) -> bool
 
 /// Whether the numbers of all of them fit 32 bits. More would take more memory than there is.
 pub fn are_small(units: &[Unit]) -> bool
-    ensures { result ≡ true → AreSmall units.now }
+    ensures { Decides result (AreSmall units.now) }
 {
     'units: for unit in units {
         if !is_small(unit) {

@@ -3,4 +3,4 @@ use Rattle.clight_start.specs.Small.{AreSmall}
 use Rattle.clight_start.proofs.small.are_small.Given as goal
 
 abbrev pub invariant-units : goal.invariant-units
-invariant-units l = AreSmall (drop l.unit-index l.units) → AreSmall l.units
+invariant-units l = (AreSmall (drop l.unit-index l.units) → AreSmall l.units) × (AreSmall l.units → AreSmall (drop l.unit-index l.units))
