@@ -178,18 +178,31 @@ if ! lacks 'an object of GNU as' as; then
     fi
 fi
 
+# What units mean is what they do as gcc compiles them.
+if ! lacks 'what units mean beside gcc' gcc; then
+    printf 'The quick brown fox\njumps over\tthe lazy dog.\n\377\0' >input
+    for name in primes sort queens numbers text; do
+        holds "$name means what gcc makes of it" sh -c 'sh "$0" ./ccelf "$1" "$2" <input' "$top/checks/like-gcc" "$top/checks/mean/$name.c" "$top/checks/mean/print.c"
+    done
+fi
+
 # Faults of real files and streams.
 mkdir folder.c
 gives 'a folder as a unit' 5 read ./ccelf exec 1000 build/out folder.c
 gives 'no such file' 4 'missing none.c' ./ccelf exec 1000 build/out none.c
 gives 'an image in no folder' 6 '' ./ccelf exec 1000 none/out main.c f.c
 gives 'a word that is no text' 2 words ./ccelf exec 1000 build/out "$(printf '\377.c')"
+echo 'int main(void) { while (1) { putbyte(88); } }' >endless.c
+echo 'int main(void) { int c; c = getbyte(); return c + 2; }' >byte.c
+gives 'an empty input of mean' 0 'exit 1' ./ccelf mean 100 byte.c
+gives 'a closed input that mean reads' 5 read sh -c './ccelf mean 100 byte.c <&-'
 gives 'a closed output' 6 '' sh -c './ccelf run 1000 build/two >&-'
 gives 'a closed report' 6 '' sh -c './ccelf run 1000 build/two 2>&-'
 gives 'a closed input that is not read' 0 'exit 3' sh -c './ccelf run 1000 build/two <&-'
 if [ -c /dev/full ]; then
     gives 'a full output' 6 '' sh -c './ccelf run 1000 build/two >/dev/full'
     gives 'a full output of show' 6 '' sh -c './ccelf show main.c >/dev/full'
+    gives 'a full output of mean' 6 '' sh -c './ccelf mean 100 endless.c >/dev/full'
     gives 'a full report' 6 '' sh -c './ccelf run 1000 build/two 2>/dev/full'
 else
     skip 'full outputs: no /dev/full'
@@ -221,7 +234,10 @@ gives 'a file of 134,217,729 bytes' 9 'long.c: limit file' ./ccelf exec 1000 bui
 rm long.c
 
 lacks 'each allocation failing' cc ||
-    holds 'each allocation failing' sh "$top/checks/fail-each-allocation" ./ccelf exec 1000 build/two main.c f.c
+    {
+        holds 'each allocation failing' sh "$top/checks/fail-each-allocation" ./ccelf exec 1000 build/two main.c f.c
+        holds 'each allocation failing in mean' sh "$top/checks/fail-each-allocation" ./ccelf mean 100000 "$top/checks/mean/text.c" "$top/checks/mean/print.c"
+    }
 
 # The manual page: well formed, with the statuses of docs/commands.md. A date in the future is a fault of the host's clock.
 if ! lacks 'the manual page' mandoc; then
