@@ -3,6 +3,7 @@ use Rattle.std.proofs.Common.{◌≡◌, ℕ, ◌+◌, zero, suc, Bool, true, fa
 use Rattle.std.specs.Prelude.{option_map, unwrap_or, All, Contains, codes, slice_index_or}
 use Rattle.std.specs.Option.{option_or, option_and_then}
 use Rattle.std.specs.Str.{bytes_eq}
+use Rattle.std.proofs.lemmas.Bool.{false_from_ne_true}
 use Rattle.std.proofs.lemmas.Slice.Eq.{bytes_eq-Decides}
 use Rattle.cc_base.specs.Faces.{first_answer}
 use Rattle.cc_base.specs.declared.face.SymbolName.{SymbolName}
@@ -90,12 +91,9 @@ callee_is units all room unit u symbol name type h at s =
 
 -- A name that is not the runtime's
 
-not_true : (b : Bool) → (b ≡ true → ⊥) → b ≡ false
-not_true true other = absurd (other refl)
-not_true false other = refl
-
-not_named : (name word : List ℕ) → (name ≡ word → ⊥) → bytes_eq name word ≡ false
-not_named name word other = not_true (bytes_eq name word) (λ e. other ((bytes_eq-Decides name word).0 e))
+-- a name that is not this word
+pub not_named : (name word : List ℕ) → (name ≡ word → ⊥) → bytes_eq name word ≡ false
+not_named name word other = false_from_ne_true (bytes_eq name word) (λ e. other ((bytes_eq-Decides name word).0 e))
 
 pub nothing_built_in : (name : List ℕ) → ¬ Contains reserved_words name → built_in name ≡ meaning.Nothing
 nothing_built_in name free =

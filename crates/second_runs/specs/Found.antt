@@ -4,6 +4,7 @@ use Rattle.std.specs.Prelude.{option_map, slice_index_or}
 use Rattle.std.specs.List.{position_from}
 use Rattle.std.specs.Option.{option_or}
 use Rattle.std.specs.Str.{bytes_eq}
+use Rattle.std.proofs.Math.Bool.{and_comm}
 use Rattle.std.proofs.lemmas.Iterator.Adapters.{position_from-zero}
 use Rattle.cc_base.specs.Faces.{first_answer}
 use Rattle.clight_unit.specs.declared.unit.Unit.{Unit as TypedUnit}
@@ -25,17 +26,11 @@ own_by : (name : List ℕ) (items : List Item) → own items name ≡ body_by (�
 own_by name [] = refl
 own_by name (item ∷ items) = ap (body_or (bytes_eq item.name name) item.body) (own_by name items)
 
-and_turned : (a b : Bool) → (a && b) ≡ (b && a)
-and_turned true true = refl
-and_turned true false = refl
-and_turned false true = refl
-and_turned false false = refl
-
 shown_as : (name : List ℕ) (items : List Item) → shown items name ≡ body_by (λ item. bytes_eq item.name name && not item.local) items
 shown_as name [] = refl
 shown_as name (item ∷ items) =
     ap (body_or (not item.local && bytes_eq item.name name) item.body) (shown_as name items)
-    ∙ ap (λ b. body_or b item.body (body_by (λ (item : Item). bytes_eq item.name name && not item.local) items)) (and_turned (not item.local) (bytes_eq item.name name))
+    ∙ ap (λ b. body_or b item.body (body_by (λ (item : Item). bytes_eq item.name name && not item.local) items)) (and_comm (not item.local) (bytes_eq item.name name))
 
 -- where the second form finds a body there is a function at the place found that does it, and else none is found
 abbrev pub Looked : TypedUnit → ℕ → List Function → Option (List SmallStmt) → Option ℕ → Type 0
@@ -105,20 +100,16 @@ in_unit all n u at (Some body) r h other typed same =
       does = h.4;
     }
 
--- the place of the first that passes
-from_zero : (test : Function → Bool) (fs : List Function) → position_from test 0 fs ≡ position test fs
-from_zero test fs = sym (position_from-zero test fs)
-
 looked_own : (u : TypedUnit) (items : List Item) (name : List ℕ) → Mirrors items u → Looked u 0 u.functions (own items name) (position (is_function_named u name) u.functions)
 looked_own u items name h =
     subst (λ b. Looked u 0 u.functions b (position (is_function_named u name) u.functions)) (sym (own_by name items))
-    (subst (λ r. Looked u 0 u.functions (body_by (λ (item : Item). bytes_eq item.name name) items) r) (from_zero (is_function_named u name) u.functions)
+    (subst (λ r. Looked u 0 u.functions (body_by (λ (item : Item). bytes_eq item.name name) items) r) (sym (position_from-zero (is_function_named u name) u.functions))
     (looked u (λ (item : Item). bytes_eq item.name name) (is_function_named u name) (λ item body f is. ap (λ n. bytes_eq n name) is.named) items u.functions 0 h.functions))
 
 looked_shown : (u : TypedUnit) (items : List Item) (name : List ℕ) → Mirrors items u → Looked u 0 u.functions (shown items name) (position (is_shown u name) u.functions)
 looked_shown u items name h =
     subst (λ b. Looked u 0 u.functions b (position (is_shown u name) u.functions)) (sym (shown_as name items))
-    (subst (λ r. Looked u 0 u.functions (body_by (λ (item : Item). bytes_eq item.name name && not item.local) items) r) (from_zero (is_shown u name) u.functions)
+    (subst (λ r. Looked u 0 u.functions (body_by (λ (item : Item). bytes_eq item.name name && not item.local) items) r) (sym (position_from-zero (is_shown u name) u.functions))
     (looked u (λ (item : Item). bytes_eq item.name name && not item.local) (is_shown u name) (λ item body f is. ap (λ n. bytes_eq n name && not f.is_static) is.named ∙ ap (λ b. bytes_eq item.name name && not b) is.static) items u.functions 0 h.functions))
 
 -- what the first of some units shows

@@ -28,14 +28,8 @@ use Rattle.clight_declarations.specs.Functions.{parameter_type, prototype_of, na
 use Rattle.second_form.specs.declared.second_items.Item.{Item}
 use Rattle.second_form.specs.SecondForm.{reserved_words}
 use Rattle.second_symbols.specs.Sources.{IsHead}
+use Rattle.second_runs.specs.Callees.{not_named}
 use Rattle.second_source.specs.Typed.{Knows, plain_function}
-
-not_true : (b : Bool) → (b ≡ true → ⊥) → b ≡ false
-not_true true other = absurd (other refl)
-not_true false other = refl
-
-not_named : (name word : List ℕ) → (name ≡ word → ⊥) → bytes_eq name word ≡ false
-not_named name word other = not_true (bytes_eq name word) (λ e. other ((bytes_eq-Decides name word).0 e))
 
 pub not_getbyte : (name : List ℕ) → ¬ Contains reserved_words name → bytes_eq name (codes "getbyte") ≡ false
 not_getbyte name free = not_named name (codes "getbyte") (λ e. free (0, omega arith, sym e))

@@ -4,6 +4,7 @@ use Rattle.std.specs.Prelude.{codes, All, Contains}
 use Rattle.std.specs.Option.{option_map, option_and_then}
 use Rattle.std.specs.List.{sum_by}
 use Rattle.std.proofs.lemmas.List.Sums.{sum_by-cons}
+use Rattle.std.proofs.lemmas.Option.{same_Some}
 use Rattle.clight_text.specs.declared.tree.Expr.{Expr}
 use Rattle.clight_text.specs.declared.tree.Expr.TheVariants as expr
 use Rattle.clight_text.specs.declared.tree.Expr.TheOpen.{Expr-F}
@@ -71,9 +72,6 @@ number_value scope x n h =
     ap (λ x. converted int (node_of scope x)) (h.is ∙ sym (expr.rolls-Number h.at n false))
     ∙ ap (λ (f : ExprFinding). converted int f.node) (fold-roll-Expr ExprFinding (expr_step scope) (Expr-F.Number h.at n false))
 
-some_same : {A : Type 0} (x y : A) → Some x ≡ Some y → x ≡ y
-some_same x y e = cc
-
 module _ (whole : Whole) (done : List (List ℕ)) (scope : Visible) (knows : Knows whole done scope) where
   simple_item : (c : CallTree) → (stmt_finding scope int (stmt.Simple (simple.Call c)) false).item ≡ option_map (λ (a : Called). typed.Simple (typed_simple.Call (call_alone a))) (called scope c)
   simple_item c =
@@ -102,7 +100,7 @@ module _ (whole : Whole) (done : List (List ℕ)) (scope : Visible) (knows : Kno
       let calls : called scope h.c ≡ Some (record { callee = symbol_of whole (codes "putbyte"); arguments = number n ∷ [] }) =
       called_with h.c (codes "putbyte") (x ∷ []) (Some (entity.Function (putbyte_of whole))) h.named h.arguments knows.putbyte
       ∙ ap (λ v. called_as (Some (putbyte_of whole)) 1 (with_next (Some []) v)) (number_value scope x n is) in
-      some_same t (call (symbol_of whole (codes "putbyte")) (number n ∷ []))
+      same_Some t (call (symbol_of whole (codes "putbyte")) (number n ∷ []))
       (sym e ∙ ap (λ s. (stmt_finding scope int s false).item) h.is ∙ simple_item h.c ∙ ap (λ a. option_map (λ (a : Called). typed.Simple (typed_simple.Call (call_alone a))) a) calls)
 
   call_is : (s : Stmt) (name : List ℕ) → IsCall s name [] → ¬ Contains reserved_words name → (t : Statement) → (stmt_finding scope int s false).item ≡ Some t → TypedAs whole done (Call name) t
@@ -115,7 +113,7 @@ module _ (whole : Whole) (done : List (List ℕ)) (scope : Visible) (knows : Kno
       by true among =
           let means : entity_of scope name ≡ Some (entity.Function (plain_function whole name)) = knows.others name free ∙ ap (λ b. cond b (Some (entity.Function (plain_function whole name))) None) among in (
             among,
-            some_same t (call (symbol_of whole name) [])
+            same_Some t (call (symbol_of whole name) [])
                 (sym e ∙ item ∙ ap (λ a. option_map (λ (a : Called). typed.Simple (typed_simple.Call (call_alone a))) a) (called_with h.c name [] (Some (entity.Function (plain_function whole name))) h.named h.arguments means)),
           )
       by false among =
@@ -126,7 +124,7 @@ module _ (whole : Whole) (done : List (List ℕ)) (scope : Visible) (knows : Kno
 
   return_is : (s : Stmt) (at : ℕ) (x : Expr) (n : ℕ) → IsNumber x n → s ≡ stmt.Return at (Some x) → (t : Statement) → (stmt_finding scope int s false).item ≡ Some t → TypedAs whole done (Return n) t
   return_is s at x n is same t e =
-      some_same t (typed.Return (Some (number n)))
+      same_Some t (typed.Return (Some (number n)))
       (sym e ∙ ap (λ s. (stmt_finding scope int s false).item) same ∙ return_item at x ∙ ap (λ v. option_map (λ (v : Value). typed.Return (Some v)) v) (number_value scope x n is))
 
   statement_is : (s : Stmt) (x : SmallStmt) → HasShape s x → CallsName x → (t : Statement) → (stmt_finding scope int s false).item ≡ Some t → TypedAs whole done x t
@@ -148,7 +146,7 @@ module _ (whole : Whole) (done : List (List ℕ)) (scope : Visible) (knows : Kno
   one_more x ss None o all is h = let e = h.began in cc
   one_more x ss (Some before) None all is h = let e = h.began in cc
   one_more x ss (Some before) (Some t) all is h =
-      let same : before ++ t ∷ [] ≡ h.before = some_same (before ++ t ∷ []) h.before h.began in
+      let same : before ++ t ∷ [] ≡ h.before = same_Some (before ++ t ∷ []) h.before h.began in
       record {
         before = before;
         later = t ∷ h.later;
@@ -180,7 +178,7 @@ module _ (whole : Whole) (done : List (List ℕ)) (scope : Visible) (knows : Kno
   pub body_is : (body : List Stmt) (ss : List SmallStmt) → all_of statement_of body ≡ Some ss → All CallsName ss → (ts : List Statement) → body_of scope int body ≡ Some ts → AllTypedAs whole done ss ts
   body_is body ss are names ts e =
       let h = gathered body ss are names (Some []) ts e in
-      let none : [] ≡ h.before = some_same [] h.before h.began in
+      let none : [] ≡ h.before = same_Some [] h.before h.began in
       subst (AllTypedAs whole done ss) (sym (h.whole_is ∙ ap (λ b. b ++ h.later) (sym none))) h.are
 
 -- Nodes

@@ -3,12 +3,13 @@ use Rattle.std.proofs.Common.{◌≡◌, ℕ, suc, ◌+◌, ◌*◌, ◌<◌, �
 use Rattle.std.specs.Prelude.{nat_lt, nat_le, codes, All, Contains}
 use Rattle.std.specs.Option.{option_map, option_map_or}
 use Rattle.std.specs.List.{sum_by, flat_map}
-use Rattle.std.proofs.lemmas.Bool.{ltb-false, leb-true, leb-false}
+use Rattle.std.proofs.lemmas.Bool.{or_left, or_right, ltb-false, leb-true, leb-false}
 use Rattle.std.proofs.lemmas.List.Folds.{list_any-append}
 use Rattle.std.proofs.lemmas.Slice.Eq.{bytes_eq-Decides}
 use Rattle.std.proofs.Math.Nat.{min-eq_left, le-min}
 use Rattle.std.specs.Str.{bytes_eq}
 use Rattle.cc_base.specs.declared.face.SymbolName.{SymbolName}
+use Rattle.std.proofs.lemmas.Option.{same_Some}
 use Rattle.clight_text.specs.declared.tree.BaseKind.TheVariants as kind
 use Rattle.clight_text.specs.declared.tree.Locals.{Locals}
 use Rattle.clight_text.specs.declared.tree.Stmt.{Stmt}
@@ -68,16 +69,6 @@ none_before (x ∷ xs) ys e = cc
 none_behind : {A : Type 0} (xs ys : List A) → xs ++ ys ≡ [] → ys ≡ []
 none_behind [] ys e = e
 none_behind (x ∷ xs) ys e = cc
-
-or_left : (a b : Bool) → a ≡ true → (a || b) ≡ true
-or_left a b h = ap (λ a. a || b) h
-
-or_right : (a b : Bool) → b ≡ true → (a || b) ≡ true
-or_right true b h = refl
-or_right false b h = h
-
-some_alike : {A : Type 0} (x y : A) → Some x ≡ Some y → x ≡ y
-some_alike x y e = cc
 
 -- the typed unit of this tree has these symbols
 module _ (tree : List External) (items : List Item) (all : AllDeclare tree items) (u : TypedUnit)
@@ -238,7 +229,7 @@ module _ (tree : List External) (items : List Item) (all : AllDeclare tree items
         by : (o : Option (List Statement)) → bodies.body_of behind int body ≡ o → IsFunction u item b.statements f
         by None typed = let none : None ≡ Some f = sym (defined_is ∙ ap (option_map made) typed) ∙ e in cc
         by (Some ts) typed =
-            let same : made ts ≡ f = some_alike (made ts) f (sym (defined_is ∙ ap (option_map made) typed) ∙ e) in
+            let same : made ts ≡ f = same_Some (made ts) f (sym (defined_is ∙ ap (option_map made) typed) ∙ e) in
             subst (IsFunction u item b.statements) same (made_is ts typed)
 
     scope_is : bodies.function_behind whole walk.scope head locals ≡ behind
@@ -274,7 +265,7 @@ module _ (tree : List External) (items : List Item) (all : AllDeclare tree items
   one_function walk next end item rest fs ss None o was same globals body is h = let e : None ≡ Some h.before = sym same ∙ h.began in cc
   one_function walk next end item rest fs ss (Some before) None was same globals body is h = let e : None ≡ Some h.before = sym same ∙ h.began in cc
   one_function walk next end item rest fs ss (Some before) (Some f) was same globals body is h =
-      let seam : before ++ f ∷ [] ≡ h.before = some_alike (before ++ f ∷ []) h.before (sym same ∙ h.began) in
+      let seam : before ++ f ∷ [] ≡ h.before = same_Some (before ++ f ∷ []) h.before (sym same ∙ h.began) in
       record {
         before = before;
         later = f ∷ h.later;

@@ -4,6 +4,8 @@ use Rattle.std.specs.Prelude.{codes, option_map}
 use Rattle.std.specs.List.{list_any, flat_map}
 use Rattle.std.specs.Option.{option_and_then}
 use Rattle.std.specs.Str.{bytes_eq}
+use Rattle.std.proofs.Math.Bool.{or-true, or-false, and-false}
+use Rattle.std.proofs.lemmas.Bool.{or_right}
 use Rattle.std.proofs.lemmas.Slice.Eq.{bytes_eq-Decides}
 use Rattle.std.proofs.lemmas.List.Folds.{list_any-append}
 use Rattle.clight_text.specs.declared.tree.Expr.{Expr}
@@ -90,21 +92,9 @@ function_sights head locals body item is none h =
 
 no_static : (n : List ℕ) (ss : List SmallStmt) → sighted role.Static n (flat_map names_in ss) ≡ false
 no_static n [] = refl
-no_static n (Put k ∷ ss) = ap (λ b. b || sighted role.Static n (flat_map names_in ss)) (and_false (bytes_eq n (codes "putbyte"))) ∙ no_static n ss
-  where
-    and_false : (b : Bool) → (b && false) ≡ false
-    and_false true = refl
-    and_false false = refl
-no_static n (Call name ∷ ss) = ap (λ b. b || sighted role.Static n (flat_map names_in ss)) (and_false (bytes_eq n name)) ∙ no_static n ss
-  where
-    and_false : (b : Bool) → (b && false) ≡ false
-    and_false true = refl
-    and_false false = refl
+no_static n (Put k ∷ ss) = ap (λ b. b || sighted role.Static n (flat_map names_in ss)) (and-false (bytes_eq n (codes "putbyte"))) ∙ no_static n ss
+no_static n (Call name ∷ ss) = ap (λ b. b || sighted role.Static n (flat_map names_in ss)) (and-false (bytes_eq n name)) ∙ no_static n ss
 no_static n (Return k ∷ ss) = no_static n ss
-
-or_nothing : (b : Bool) → (b || false) ≡ b
-or_nothing true = refl
-or_nothing false = refl
 
 abbrev pub is_static_name : List ℕ → Item → Bool
 is_static_name n item = bytes_eq n item.name && item.local
@@ -113,13 +103,13 @@ external_static : (n : List ℕ) (x : External) (item : Item) → Declares x ite
 external_static n (top.Struct tag members) item h = absurd h
 external_static n (top.Objects l b items) item h = absurd h
 external_static n (top.Prototype head) item h =
-    or_nothing (bytes_eq n head.name.bytes && is_static head.linkage)
+    or-false (bytes_eq n head.name.bytes && is_static head.linkage)
     ∙ ap (λ m. bytes_eq n m && is_static head.linkage) h.0.named
     ∙ ap (λ b. bytes_eq n item.name && b) h.0.static
 external_static n (top.Function head locals body) item h =
     ap (sighted role.Static n) (function_sights head locals body item h.0 h.1 h.2)
     ∙ ap (λ b. (bytes_eq n item.name && item.local) || b) (no_static n h.2.statements)
-    ∙ or_nothing (bytes_eq n item.name && item.local)
+    ∙ or-false (bytes_eq n item.name && item.local)
 
 static_names : (n : List ℕ) (tree : List External) (items : List Item) → AllDeclare tree items → sighted role.Static n (sights_of tree) ≡ list_any (is_static_name n) items
 static_names n [] items h = sym (ap (list_any (is_static_name n)) h)
@@ -136,11 +126,7 @@ some_static (x ∷ items) zero item at local =
     ap (λ (x : Item). is_static_name item.name x || list_any (is_static_name item.name) items) same
     ∙ ap (λ b. (b && item.local) || list_any (is_static_name item.name) items) ((bytes_eq-Decides item.name item.name).1 refl)
     ∙ ap (λ b. b || list_any (is_static_name item.name) items) local
-some_static (x ∷ items) (suc i) item at local = ap (λ b. is_static_name item.name x || b) (some_static items i item at local) ∙ or_true (is_static_name item.name x)
-  where
-    or_true : (b : Bool) → (b || true) ≡ true
-    or_true true = refl
-    or_true false = refl
+some_static (x ∷ items) (suc i) item at local = ap (λ b. is_static_name item.name x || b) (some_static items i item at local) ∙ or-true (is_static_name item.name x)
 
 none_static : (n : List ℕ) (items : List Item) → ((i : ℕ) (item : Item) → slice_get items i ≡ Some item → item.name ≡ n → item.local ≡ false) → list_any (is_static_name n) items ≡ false
 none_static n [] not = refl
@@ -173,14 +159,10 @@ AllUsed tree (Return n ∷ ss) = AllUsed tree ss
 one_used : (name : List ℕ) (sights : List Seen) → sighted role.Use name (seen how.Used name ∷ sights) ≡ true
 one_used name sights = ap (λ b. (b && true) || sighted role.Use name sights) ((bytes_eq-Decides name name).1 refl)
 
-or_later : (a b : Bool) → b ≡ true → (a || b) ≡ true
-or_later true b h = refl
-or_later false b h = h
-
 pub all_used : (tree : List External) (ss : List SmallStmt) → ((n : List ℕ) → sighted role.Use n (flat_map names_in ss) ≡ true → sighted role.Use n (sights_of tree) ≡ true) → AllUsed tree ss
 all_used tree [] within = tt
 all_used tree (Put k ∷ ss) within =
-    (within (codes "putbyte") (one_used (codes "putbyte") (flat_map names_in ss)), all_used tree ss (λ n h. within n (or_later (bytes_eq n (codes "putbyte") && true) (sighted role.Use n (flat_map names_in ss)) h)))
+    (within (codes "putbyte") (one_used (codes "putbyte") (flat_map names_in ss)), all_used tree ss (λ n h. within n (or_right (bytes_eq n (codes "putbyte") && true) (sighted role.Use n (flat_map names_in ss)) h)))
 all_used tree (Call name ∷ ss) within =
-    (within name (one_used name (flat_map names_in ss)), all_used tree ss (λ n h. within n (or_later (bytes_eq n name && true) (sighted role.Use n (flat_map names_in ss)) h)))
+    (within name (one_used name (flat_map names_in ss)), all_used tree ss (λ n h. within n (or_right (bytes_eq n name && true) (sighted role.Use n (flat_map names_in ss)) h)))
 all_used tree (Return k ∷ ss) within = all_used tree ss within

@@ -2,6 +2,7 @@
 use Rattle.std.proofs.Common.{◌≡◌, ℕ, suc, ◌+◌, ◌<◌, Bool, true, false, not, ◌&&◌, ◌||◌, cond, List, [], ◌∷◌, ◌++◌, map, filter, length, slice_get, Some, refl, sym, ap, ◌∙◌, subst, arith, append_assoc, append-nil}
 use Rattle.std.specs.List.{list_any, position_from}
 use Rattle.std.specs.Str.{bytes_eq}
+use Rattle.std.proofs.Math.Bool.{or-true, or-false, or_assoc, and-true, and-false}
 use Rattle.std.proofs.lemmas.Slice.Eq.{bytes_eq-Decides}
 use Rattle.std.proofs.lemmas.List.Folds.{list_any-append}
 use Rattle.clight_symbols.specs.Names.{is_among, with_name, with_names}
@@ -13,42 +14,31 @@ use Rattle.clight_symbols.specs.Symbols.{plays, names_with, known_of, is_local, 
 
 -- Lists of names
 
-alike : (n m : List ℕ) → bytes_eq n m ≡ true → n ≡ m
+-- names that are found to be alike
+pub alike : (n m : List ℕ) → bytes_eq n m ≡ true → n ≡ m
 alike n m e = (bytes_eq-Decides n m).0 e
 
 itself : (n : List ℕ) → bytes_eq n n ≡ true
 itself n = (bytes_eq-Decides n n).1 refl
-
-or_false : (a : Bool) → a ≡ (a || false)
-or_false true = refl
-or_false false = refl
-
-or_true : (a : Bool) → (a || true) ≡ true
-or_true true = refl
-or_true false = refl
-
-or_of : (a b c : Bool) → ((a || b) || c) ≡ (a || (b || c))
-or_of true b c = refl
-or_of false b c = refl
 
 -- a name that is added, or that was there
 among_one : (n : List ℕ) (xs : List (List ℕ)) (y : List ℕ) → is_among n (with_name xs y) ≡ (is_among n xs || bytes_eq n y)
 among_one n xs y = there (is_among y xs) refl
   where
     same : is_among y xs ≡ true → (b : Bool) → bytes_eq n y ≡ b → is_among n xs ≡ (is_among n xs || b)
-    same h true e = ap (λ m. is_among m xs) (alike n y e) ∙ h ∙ sym (or_true (is_among n xs))
-    same h false e = or_false (is_among n xs)
+    same h true e = ap (λ m. is_among m xs) (alike n y e) ∙ h ∙ sym (or-true (is_among n xs))
+    same h false e = sym (or-false (is_among n xs))
 
     there : (b : Bool) → is_among y xs ≡ b → is_among n (cond b xs (xs ++ y ∷ [])) ≡ (is_among n xs || bytes_eq n y)
     there true h = same h (bytes_eq n y) refl
-    there false h = list_any-append (bytes_eq n) xs (y ∷ []) ∙ ap (λ b. is_among n xs || b) (sym (or_false (bytes_eq n y)))
+    there false h = list_any-append (bytes_eq n) xs (y ∷ []) ∙ ap (λ b. is_among n xs || b) (or-false (bytes_eq n y))
 
 pub among_all : (n : List ℕ) (xs ys : List (List ℕ)) → is_among n (with_names xs ys) ≡ (is_among n xs || is_among n ys)
-among_all n xs [] = or_false (is_among n xs)
+among_all n xs [] = sym (or-false (is_among n xs))
 among_all n xs (y ∷ ys) =
     among_all n (with_name xs y) ys
     ∙ ap (λ b. b || is_among n ys) (among_one n xs y)
-    ∙ or_of (is_among n xs) (bytes_eq n y) (is_among n ys)
+    ∙ or_assoc (is_among n xs) (bytes_eq n y) (is_among n ys)
 
 -- names are only added
 adds_one : (xs : List (List ℕ)) (y : List ℕ) → (more : List (List ℕ)) × (with_name xs y ≡ xs ++ more)
@@ -79,18 +69,10 @@ among_filtered : (n : List ℕ) (p : Seen → Bool) (sights : List Seen) → is_
 among_filtered n p [] = refl
 among_filtered n p (s ∷ sights) = by (p s) (among_filtered n p sights)
   where
-    and_true : (b : Bool) → b ≡ (b && true)
-    and_true true = refl
-    and_true false = refl
-
-    and_false : (b : Bool) → (b && false) ≡ false
-    and_false true = refl
-    and_false false = refl
-
     by : (b : Bool) → is_among n (map (λ (s : Seen). s.name) (filter p sights)) ≡ list_any (λ (s : Seen). bytes_eq n s.name && p s) sights
         → is_among n (map (λ (s : Seen). s.name) (cond b (s ∷ filter p sights) (filter p sights))) ≡ ((bytes_eq n s.name && b) || list_any (λ (s : Seen). bytes_eq n s.name && p s) sights)
-    by true later = ap (λ b. bytes_eq n s.name || b) later ∙ ap (λ b. b || list_any (λ (s : Seen). bytes_eq n s.name && p s) sights) (and_true (bytes_eq n s.name))
-    by false later = later ∙ sym (ap (λ b. b || list_any (λ (s : Seen). bytes_eq n s.name && p s) sights) (and_false (bytes_eq n s.name)))
+    by true later = ap (λ b. bytes_eq n s.name || b) later ∙ ap (λ b. b || list_any (λ (s : Seen). bytes_eq n s.name && p s) sights) (sym (and-true (bytes_eq n s.name)))
+    by false later = later ∙ sym (ap (λ b. b || list_any (λ (s : Seen). bytes_eq n s.name && p s) sights) (and-false (bytes_eq n s.name)))
 
 among_with : (r : Role) (n : List ℕ) (sights : List Seen) → is_among n (names_with r sights) ≡ sighted r n sights
 among_with r n sights = among_all n [] _ ∙ among_filtered n (λ (s : Seen). plays r s.how) sights
@@ -144,13 +126,9 @@ module _ (sights : List Seen) where
   local_symbols n h =
       among_locals n
       ∙ ap (λ b. is_local known n && b) (seen_somehow role.Definition n sights h)
-      ∙ and_true (is_local known n)
+      ∙ and-true (is_local known n)
       ∙ local_is n
       ∙ ap (λ b. b && sighted role.Static n sights) h
-    where
-      and_true : (b : Bool) → (b && true) ≡ b
-      and_true true = refl
-      and_true false = refl
 
   -- a name that is defined or used has a symbol
   pub has_symbol : (n : List ℕ) → (sighted role.Definition n sights || sighted role.Use n sights) ≡ true → is_among n all_names ≡ true

@@ -4,6 +4,7 @@ use Rattle.std.specs.Prelude.{nat_lt, unwrap_or, option_map}
 use Rattle.std.specs.List.{list_any, position_from}
 use Rattle.std.specs.Option.{option_map_or}
 use Rattle.std.specs.Str.{bytes_eq}
+use Rattle.std.proofs.Math.Bool.{or-true}
 use Rattle.std.proofs.lemmas.Bool.{lt-ltb, le-ltb}
 use Rattle.std.proofs.lemmas.Option.{slice_get-map}
 use Rattle.std.proofs.lemmas.Slice.Eq.{bytes_eq-Decides}
@@ -29,13 +30,7 @@ use Rattle.clight_typing.specs.Faces.{symbol_names, undeclared, with_head, with_
 use Rattle.second_form.specs.declared.second_items.Item.{Item}
 use Rattle.second_runs.specs.Mirrors.{int_void}
 use Rattle.second_symbols.specs.Sources.{IsHead, AllDeclare}
-use Rattle.second_symbols.specs.Sighted.{sighted, known, local_names, local_symbols, has_symbol, adds_all, Placed, placed, placed_among, placed_behind}
-
-same_name : (n m : List ℕ) → bytes_eq n m ≡ true → n ≡ m
-same_name n m e = (bytes_eq-Decides n m).0 e
-
-from_zero : (n : List ℕ) (xs : List (List ℕ)) → position (bytes_eq n) xs ≡ position_from (bytes_eq n) 0 xs
-from_zero n xs = position_from-zero (bytes_eq n) xs
+use Rattle.second_symbols.specs.Sighted.{alike, sighted, known, local_names, local_symbols, has_symbol, adds_all, Placed, placed, placed_among, placed_behind}
 
 -- a name has a symbol of this number
 pub record IsSymbol (whole : Whole) (n : List ℕ) : Type 0 where
@@ -47,12 +42,12 @@ pub record IsSymbol (whole : Whole) (n : List ℕ) : Type 0 where
 pub symbol_is : (whole : Whole) (n : List ℕ) → is_among n whole.symbols.names ≡ true → IsSymbol whole n
 symbol_is whole n h =
     let p : Placed (bytes_eq n) 0 whole.symbols.names (length whole.symbols.names) = placed (bytes_eq n) 0 whole.symbols.names h in
-    let first : position (bytes_eq n) whole.symbols.names ≡ Some p.place = from_zero n whole.symbols.names ∙ p.first ∙ ap (λ k. Some k) (let e : 0 + p.place ≡ p.place = omega arith in e) in
+    let first : position (bytes_eq n) whole.symbols.names ≡ Some p.place = position_from-zero (bytes_eq n) whole.symbols.names ∙ p.first ∙ ap (λ k. Some k) (let e : 0 + p.place ≡ p.place = omega arith in e) in
     record {
       place = p.place;
       first = first;
       number = ap (λ o. unwrap_or o 0) first;
-      at = p.at ∙ ap (λ m. Some m) (sym (same_name n p.x p.passes));
+      at = p.at ∙ ap (λ m. Some m) (sym (alike n p.x p.passes));
     }
 
 -- The first symbols are the local ones
@@ -74,7 +69,7 @@ local_is_static tree n defined = by (is_among n locals) refl
     there = ap (is_among n) (sym more.1) ∙ has_symbol (sights_of tree) n (ap (λ b. b || sighted role.Use n (sights_of tree)) defined)
 
     number : symbol_of (whole_of tree) n ≡ unwrap_or (position_from (bytes_eq n) 0 (locals ++ more.0)) 0
-    number = ap (λ o. unwrap_or o 0) (from_zero n (with_names locals globals) ∙ ap (position_from (bytes_eq n) 0) more.1)
+    number = ap (λ o. unwrap_or o 0) (position_from-zero (bytes_eq n) (with_names locals globals) ∙ ap (position_from (bytes_eq n) 0) more.1)
 
     known_static : is_among n locals ≡ sighted role.Static n (sights_of tree)
     known_static = local_symbols (sights_of tree) n defined
@@ -117,11 +112,7 @@ names_behind done (item ∷ items) = names_behind (item.name ∷ done) items
 
 pub still_among : (n : List ℕ) (done : List (List ℕ)) (items : List Item) → is_among n done ≡ true → is_among n (names_behind done items) ≡ true
 still_among n done [] h = h
-still_among n done (item ∷ items) h = still_among n (item.name ∷ done) items (ap (λ b. bytes_eq n item.name || b) h ∙ or_true (bytes_eq n item.name))
-  where
-    or_true : (a : Bool) → (a || true) ≡ true
-    or_true true = refl
-    or_true false = refl
+still_among n done (item ∷ items) h = still_among n (item.name ∷ done) items (ap (λ b. bytes_eq n item.name || b) h ∙ or-true (bytes_eq n item.name))
 
 -- a function of these is `int f(void)`
 abbrev pub declared_as : List ℕ → List (List ℕ) → Callee
@@ -156,7 +147,7 @@ module _ (whole : Whole) (n : List ℕ) (h : IsSymbol whole n) where
       among true e = e
       among false lacks =
           let none : position_from (bytes_eq m) 0 (whole.symbols.names ++ []) ≡ None = placed_behind (bytes_eq m) 0 whole.symbols.names [] lacks in
-          let some : Some j ≡ None = sym e ∙ from_zero m whole.symbols.names ∙ ap (position_from (bytes_eq m) 0) (sym (append-nil whole.symbols.names)) ∙ none in
+          let some : Some j ≡ None = sym e ∙ position_from-zero (bytes_eq m) whole.symbols.names ∙ ap (position_from (bytes_eq m) 0) (sym (append-nil whole.symbols.names)) ∙ none in
           cc
 
       other : h.place ≢ j
@@ -180,7 +171,7 @@ module _ (whole : Whole) (n : List ℕ) (h : IsSymbol whole n) where
       by : (b : Bool) → bytes_eq n item.name ≡ b
           → slice_get (option_map_or (λ k. set cs k (callee.Function int_void)) (position (bytes_eq item.name) whole.symbols.names) cs) h.place ≡ Some (cond (b || is_among n done) (callee.Function int_void) (undeclared n))
       by true same =
-          ap (λ m. slice_get (option_map_or (λ k. set cs k (callee.Function int_void)) (position (bytes_eq m) whole.symbols.names) cs) h.place) (sym (same_name n item.name same))
+          ap (λ m. slice_get (option_map_or (λ k. set cs k (callee.Function int_void)) (position (bytes_eq m) whole.symbols.names) cs) h.place) (sym (alike n item.name same))
           ∙ ap (λ o. slice_get (option_map_or (λ k. set cs k (callee.Function int_void)) o cs) h.place) h.first
           ∙ set_same cs h.place (declared_as n done) (callee.Function int_void) at
       by false differs = named_place item.name (position (bytes_eq item.name) whole.symbols.names) refl differs cs (callee.Function int_void) ∙ at
