@@ -65,7 +65,7 @@ fn gives(rt: &impl Abort, memory: &Memory, op: Op, rows: &[(u32, u32, Option<u32
 }
 
 #[test]
-fn operators_on_integers(rt: HostRuntime) -> Result<(), Fail> {
+fn one_operand(rt: HostRuntime) -> Result<(), Fail> {
     let memory = Memory::new(rt.alloc())?;
     gives(
         &rt,
@@ -101,6 +101,12 @@ fn operators_on_integers(rt: HostRuntime) -> Result<(), Fail> {
         Op::Not,
         &[(0, 7, Some(1)), (LEAST, 0, Some(0))],
     );
+    Ok(())
+}
+
+#[test]
+fn sums_and_products(rt: HostRuntime) -> Result<(), Fail> {
+    let memory = Memory::new(rt.alloc())?;
     gives(
         &rt,
         &memory,
@@ -122,6 +128,12 @@ fn operators_on_integers(rt: HostRuntime) -> Result<(), Fail> {
             (MINUS_ONE, MINUS_ONE, Some(1)),
         ],
     );
+    Ok(())
+}
+
+#[test]
+fn quotients_and_remainders(rt: HostRuntime) -> Result<(), Fail> {
+    let memory = Memory::new(rt.alloc())?;
     gives(
         &rt,
         &memory,
@@ -160,6 +172,12 @@ fn operators_on_integers(rt: HostRuntime) -> Result<(), Fail> {
         Op::RemUnsigned,
         &[(MINUS_SEVEN, 2, Some(1)), (0, 0, None)],
     );
+    Ok(())
+}
+
+#[test]
+fn bits(rt: HostRuntime) -> Result<(), Fail> {
+    let memory = Memory::new(rt.alloc())?;
     gives(
         &rt,
         &memory,
@@ -178,6 +196,12 @@ fn operators_on_integers(rt: HostRuntime) -> Result<(), Fail> {
         Op::Xor,
         &[(0xF0F0_F0F0, 0xFF00_FF00, Some(0x0FF0_0FF0))],
     );
+    Ok(())
+}
+
+#[test]
+fn shifts(rt: HostRuntime) -> Result<(), Fail> {
+    let memory = Memory::new(rt.alloc())?;
     gives(
         &rt,
         &memory,
@@ -205,6 +229,12 @@ fn operators_on_integers(rt: HostRuntime) -> Result<(), Fail> {
         Op::ShrUnsigned,
         &[(LEAST, 31, Some(1)), (1, 32, None)],
     );
+    Ok(())
+}
+
+#[test]
+fn integers_are_equal_or_less(rt: HostRuntime) -> Result<(), Fail> {
+    let memory = Memory::new(rt.alloc())?;
     gives(
         &rt,
         &memory,
@@ -216,6 +246,12 @@ fn operators_on_integers(rt: HostRuntime) -> Result<(), Fail> {
     gives(&rt, &memory, Op::LtUnsigned, &[(LEAST, 0, Some(0))]);
     gives(&rt, &memory, Op::GtSigned, &[(LEAST, 0, Some(0))]);
     gives(&rt, &memory, Op::GtUnsigned, &[(LEAST, 0, Some(1))]);
+    Ok(())
+}
+
+#[test]
+fn integers_are_at_most_or_at_least(rt: HostRuntime) -> Result<(), Fail> {
+    let memory = Memory::new(rt.alloc())?;
     gives(
         &rt,
         &memory,
@@ -244,15 +280,13 @@ fn operators_on_integers(rt: HostRuntime) -> Result<(), Fail> {
 }
 
 #[test]
-fn operators_on_pointers(rt: HostRuntime) -> Result<(), Fail> {
+fn pointers_are_moved_and_subtracted(rt: HostRuntime) -> Result<(), Fail> {
     let memory = blocks(&rt, rt.alloc())?;
     let null = Value::Int(0);
     let one = Value::Int(1);
     let minus_one = Value::Int(MINUS_ONE);
     let int = Element::new(4);
-    let yes = Some(Value::Int(1));
-    let no = Some(Value::Int(0));
-    let table: [(Op, Value, Value, Option<Value>); 41] = [
+    let table: [(Op, Value, Value, Option<Value>); 15] = [
         (Op::Keep, pointer(3, 9), null, Some(pointer(3, 9))),
         (Op::PtrAdd(int), pointer(0, 4), one, Some(pointer(0, 8))),
         (
@@ -293,6 +327,21 @@ fn operators_on_pointers(rt: HostRuntime) -> Result<(), Fail> {
         (Op::PtrDiff(int), pointer(0, 0), pointer(1, 0), None),
         (Op::PtrDiff(int), pointer(3, 0), pointer(3, 0), None),
         (Op::PtrDiff(int), null, null, None),
+    ];
+    for (op, left, right, want) in table {
+        assert_eq!(rt; memory.apply(op, &left, &right), want, "{op:?}");
+    }
+    Ok(())
+}
+
+#[test]
+fn pointers_are_compared(rt: HostRuntime) -> Result<(), Fail> {
+    let memory = blocks(&rt, rt.alloc())?;
+    let null = Value::Int(0);
+    let one = Value::Int(1);
+    let yes = Some(Value::Int(1));
+    let no = Some(Value::Int(0));
+    let table: [(Op, Value, Value, Option<Value>); 26] = [
         (Op::PtrNot, null, null, yes),
         (Op::PtrNot, pointer(0, 8), null, no),
         (Op::PtrNot, pointer(0, 9), null, None),

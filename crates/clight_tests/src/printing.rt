@@ -12,8 +12,8 @@ fn printed(alloc: Global, text: &[u8]) -> Option<Text> {
 }
 
 #[test]
-fn prints_each_construct(rt: HostRuntime) -> Result<(), AllocError> {
-    let table: [(&[u8], &[u8]); 30] = [
+fn prints_each_object(rt: HostRuntime) -> Result<(), AllocError> {
+    let table: [(&[u8], &[u8]); 11] = [
         (b"", b"\n"),
         (
             b"int main(){return 7;}",
@@ -40,6 +40,17 @@ fn prints_each_construct(rt: HostRuntime) -> Result<(), AllocError> {
             b"char a[3]=\"a\\n\\\"\";",
             b"char a [ 3 ] = \"\\x61\\x0a\\x22\" ;\n",
         ),
+    ];
+    for (text, expected) in table {
+        let found = printed(rt.alloc(), text);
+        assert!(rt; matches!(&found, Some(found) if found.as_slice() == expected));
+    }
+    Ok(())
+}
+
+#[test]
+fn prints_each_expression(rt: HostRuntime) -> Result<(), AllocError> {
+    let table: [(&[u8], &[u8]); 11] = [
         (
             b"int a=0x1F+017+0+7U+4294967295u+2147483648u;",
             b"int a = ( ( ( ( 31 + 15 ) + 0 ) + 7u ) + 4294967295u ) + 2147483648u ;\n",
@@ -66,6 +77,17 @@ fn prints_each_construct(rt: HostRuntime) -> Result<(), AllocError> {
             b"int a = sizeof ( ( int ) b ) ;\n",
         ),
         (b"int a=~(b|c);", b"int a = ~ ( b | c ) ;\n"),
+    ];
+    for (text, expected) in table {
+        let found = printed(rt.alloc(), text);
+        assert!(rt; matches!(&found, Some(found) if found.as_slice() == expected));
+    }
+    Ok(())
+}
+
+#[test]
+fn prints_each_function_and_statement(rt: HostRuntime) -> Result<(), AllocError> {
+    let table: [(&[u8], &[u8]); 8] = [
         (
             b"int f(int,char*p);void g(struct s*q){}",
             b"int f ( int , char * p ) ; void g ( struct s * q ) { }\n",
