@@ -9,11 +9,11 @@ trap 'rm -rf "$folder"' EXIT
 program=$folder/crates/link_bench
 
 mkdir -p "$program/src" "$program/proofs/linked"
-for crate in cc_base pass_core clight_text clight_parser second_form i386_machine machine_steps elf_file elf_linker image_loader second_code; do
+for crate in cc_base pass_core text_grammar text_parser second_form i386_machine i386_steps elf_file elf_linker elf_loader second_code; do
     (cd "$top" && tar cf - --exclude=out "crates/$crate") | (cd "$folder" && tar xf -)
     grep "^$crate:" "$top/crates.txt" >> "$folder/crates.txt"
 done
-echo 'link_bench: clight_parser elf_file elf_linker second_code anyhow' >> "$folder/crates.txt"
+echo 'link_bench: text_parser elf_file elf_linker second_code anyhow' >> "$folder/crates.txt"
 
 cat > "$program/src/main.rt" <<'EOF'
 // Makes the objects of units that call each other in a chain, or links them. The arguments are what is done, how many
@@ -24,7 +24,7 @@ ghost use Rattle.std.specs.Prelude.{IfOk};
 ghost use Rattle.elf_file.specs.Image.{WellFormedImage};
 
 use anyhow::{Result, anyhow};
-use clight_parser::parse;
+use text_parser::parse;
 use elf_file::{ImageParts, read_object, write_image, write_object};
 use elf_linker::{Inputs, link, runtime_parts};
 use second_code::unit_object;

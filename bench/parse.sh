@@ -9,15 +9,15 @@ trap 'rm -rf "$folder"' EXIT
 program=$folder/crates/parse_bench
 
 mkdir -p "$program/src"
-(cd "$top" && tar cf - --exclude=out crates/cc_base crates/clight_text crates/clight_parser) | (cd "$folder" && tar xf -)
-grep -E '^(cc_base|clight_text|clight_parser):' "$top/crates.txt" > "$folder/crates.txt"
-echo 'parse_bench: clight_parser' >> "$folder/crates.txt"
+(cd "$top" && tar cf - --exclude=out crates/cc_base crates/text_grammar crates/text_parser) | (cd "$folder" && tar xf -)
+grep -E '^(cc_base|text_grammar|text_parser):' "$top/crates.txt" > "$folder/crates.txt"
+echo 'parse_bench: text_parser' >> "$folder/crates.txt"
 
 cat > "$program/src/main.rt" <<'END'
 //! Parses the file that the first argument names, and says whether it is a unit's text.
 #![tactic(auto)]
 
-use clight_parser::parse;
+use text_parser::parse;
 use std::{env, fs, io};
 
 fn main(rt: HostRuntime) -> io::Result<()> {

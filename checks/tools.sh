@@ -192,6 +192,8 @@ gives 'a folder as a unit' 5 read ./ccelf exec 1000 build/out folder.c
 gives 'no such file' 4 'missing none.c' ./ccelf exec 1000 build/out none.c
 gives 'an image in no folder' 6 '' ./ccelf exec 1000 none/out main.c f.c
 gives 'a word that is no text' 2 words ./ccelf exec 1000 build/out "$(printf '\377.c')"
+lacks 'a name of the program that is no text' python3 ||
+    gives 'a name of the program that is no text' 4 'missing none.c' python3 -c 'import os; os.execv("./ccelf", [b"\xff", "show", "none.c"])'
 echo 'int main(void) { while (1) { putbyte(88); } }' >endless.c
 echo 'int main(void) { int c; c = getbyte(); return c + 2; }' >byte.c
 gives 'an empty input of mean' 0 'exit 1' ./ccelf mean 100 byte.c
@@ -247,6 +249,7 @@ fi
 sed -n 's/^| \([0-9]*\) | \([A-Z][A-Za-z]*\) |.*/\1 \2/p' "$top/docs/commands.md" | uniq >commands
 sed -n 's/^\.It \([0-9][0-9]*\) Ta \([A-Z][A-Za-z]*\) Ta.*/\1 \2/p' "$top/man/ccelf.1" | uniq >manual
 holds 'the manual page has the statuses of docs/commands.md' sh -c 'test -s commands && diff commands manual'
+holds 'docs/map.md has the storeys and crates of crates.txt' awk -f "$top/checks/crates.awk" "$top/crates.txt" "$top/docs/map.md"
 
 # ./ccelf builds where need be, with a stand-in for rt that tells when it is called.
 mkdir -p "$folder/top/crates/ccelf" "$folder/bin" "$folder/a folder" && cp "$top/ccelf" "$folder/top/"

@@ -5,6 +5,6 @@ pub mod Blocks
 pub mod Access
 pub mod Operators
 pub mod Quads
-pub mod Laws
 pub mod Start
 pub mod Codes
+pub mod laws

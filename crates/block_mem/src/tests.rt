@@ -6,8 +6,6 @@ use std::test::Fail;
 
 const LEAST: u32 = 0x8000_0000;
 
-const GREATEST: u32 = 0x7FFF_FFFF;
-
 const MINUS_ONE: u32 = 0xFFFF_FFFF;
 
 const MINUS_SEVEN: u32 = 0xFFFF_FFF9;
@@ -65,73 +63,6 @@ fn gives(rt: &impl Abort, memory: &Memory, op: Op, rows: &[(u32, u32, Option<u32
 }
 
 #[test]
-fn one_operand(rt: HostRuntime) -> Result<(), Fail> {
-    let memory = Memory::new(rt.alloc())?;
-    gives(
-        &rt,
-        &memory,
-        Op::LowSigned,
-        &[
-            (200, 0, Some(0xFFFF_FFC8)),
-            (127, 0, Some(127)),
-            (0x180, 0, Some(0xFFFF_FF80)),
-        ],
-    );
-    gives(
-        &rt,
-        &memory,
-        Op::LowUnsigned,
-        &[(0xFFFF_FFC8, 0, Some(200)), (256, 0, Some(0))],
-    );
-    gives(
-        &rt,
-        &memory,
-        Op::Neg,
-        &[(LEAST, 0, Some(LEAST)), (1, 0, Some(MINUS_ONE))],
-    );
-    gives(
-        &rt,
-        &memory,
-        Op::Flip,
-        &[(0, 0, Some(MINUS_ONE)), (GREATEST, 0, Some(LEAST))],
-    );
-    gives(
-        &rt,
-        &memory,
-        Op::Not,
-        &[(0, 7, Some(1)), (LEAST, 0, Some(0))],
-    );
-    Ok(())
-}
-
-#[test]
-fn sums_and_products(rt: HostRuntime) -> Result<(), Fail> {
-    let memory = Memory::new(rt.alloc())?;
-    gives(
-        &rt,
-        &memory,
-        Op::Add,
-        &[(GREATEST, 1, Some(LEAST)), (MINUS_ONE, 1, Some(0))],
-    );
-    gives(
-        &rt,
-        &memory,
-        Op::Sub,
-        &[(LEAST, 1, Some(GREATEST)), (0, 1, Some(MINUS_ONE))],
-    );
-    gives(
-        &rt,
-        &memory,
-        Op::Mul,
-        &[
-            (0x1_0001, 0x1_0001, Some(0x2_0001)),
-            (MINUS_ONE, MINUS_ONE, Some(1)),
-        ],
-    );
-    Ok(())
-}
-
-#[test]
 fn quotients_and_remainders(rt: HostRuntime) -> Result<(), Fail> {
     let memory = Memory::new(rt.alloc())?;
     gives(
@@ -176,30 +107,6 @@ fn quotients_and_remainders(rt: HostRuntime) -> Result<(), Fail> {
 }
 
 #[test]
-fn bits(rt: HostRuntime) -> Result<(), Fail> {
-    let memory = Memory::new(rt.alloc())?;
-    gives(
-        &rt,
-        &memory,
-        Op::And,
-        &[(0xF0F0_F0F0, 0xFF00_FF00, Some(0xF000_F000))],
-    );
-    gives(
-        &rt,
-        &memory,
-        Op::Or,
-        &[(0xF0F0_F0F0, 0xFF00_FF00, Some(0xFFF0_FFF0))],
-    );
-    gives(
-        &rt,
-        &memory,
-        Op::Xor,
-        &[(0xF0F0_F0F0, 0xFF00_FF00, Some(0x0FF0_0FF0))],
-    );
-    Ok(())
-}
-
-#[test]
 fn shifts(rt: HostRuntime) -> Result<(), Fail> {
     let memory = Memory::new(rt.alloc())?;
     gives(
@@ -229,108 +136,6 @@ fn shifts(rt: HostRuntime) -> Result<(), Fail> {
         Op::ShrUnsigned,
         &[(LEAST, 31, Some(1)), (1, 32, None)],
     );
-    Ok(())
-}
-
-#[test]
-fn integers_are_equal_or_less(rt: HostRuntime) -> Result<(), Fail> {
-    let memory = Memory::new(rt.alloc())?;
-    gives(
-        &rt,
-        &memory,
-        Op::Eq,
-        &[(MINUS_ONE, MINUS_ONE, Some(1)), (0, 1, Some(0))],
-    );
-    gives(&rt, &memory, Op::Ne, &[(MINUS_ONE, MINUS_ONE, Some(0))]);
-    gives(&rt, &memory, Op::LtSigned, &[(LEAST, 0, Some(1))]);
-    gives(&rt, &memory, Op::LtUnsigned, &[(LEAST, 0, Some(0))]);
-    gives(&rt, &memory, Op::GtSigned, &[(LEAST, 0, Some(0))]);
-    gives(&rt, &memory, Op::GtUnsigned, &[(LEAST, 0, Some(1))]);
-    Ok(())
-}
-
-#[test]
-fn integers_are_at_most_or_at_least(rt: HostRuntime) -> Result<(), Fail> {
-    let memory = Memory::new(rt.alloc())?;
-    gives(
-        &rt,
-        &memory,
-        Op::LeSigned,
-        &[(MINUS_ONE, 0, Some(1)), (0, 0, Some(1))],
-    );
-    gives(
-        &rt,
-        &memory,
-        Op::LeUnsigned,
-        &[(MINUS_ONE, 0, Some(0)), (0, 0, Some(1))],
-    );
-    gives(
-        &rt,
-        &memory,
-        Op::GeSigned,
-        &[(MINUS_ONE, 0, Some(0)), (0, 0, Some(1))],
-    );
-    gives(
-        &rt,
-        &memory,
-        Op::GeUnsigned,
-        &[(MINUS_ONE, 0, Some(1)), (0, 0, Some(1))],
-    );
-    Ok(())
-}
-
-#[test]
-fn pointers_are_moved_and_subtracted(rt: HostRuntime) -> Result<(), Fail> {
-    let memory = blocks(&rt, rt.alloc())?;
-    let null = Value::Int(0);
-    let one = Value::Int(1);
-    let minus_one = Value::Int(MINUS_ONE);
-    let int = Element::new(4);
-    let table: [(Op, Value, Value, Option<Value>); 15] = [
-        (Op::Keep, pointer(3, 9), null, Some(pointer(3, 9))),
-        (Op::PtrAdd(int), pointer(0, 4), one, Some(pointer(0, 8))),
-        (
-            Op::PtrAdd(int),
-            pointer(0, 0),
-            minus_one,
-            Some(pointer(0, 0xFFFF_FFFC)),
-        ),
-        (Op::PtrAdd(int), pointer(3, 0), one, Some(pointer(3, 4))),
-        (Op::PtrAdd(int), null, null, None),
-        (Op::PtrAdd(int), one, pointer(0, 0), None),
-        (Op::PtrSub(int), pointer(0, 4), one, Some(pointer(0, 0))),
-        (
-            Op::PtrSub(int),
-            pointer(0, 0),
-            one,
-            Some(pointer(0, 0xFFFF_FFFC)),
-        ),
-        (Op::PtrSub(int), null, null, None),
-        (
-            Op::PtrDiff(int),
-            pointer(0, 8),
-            pointer(0, 0),
-            Some(Value::Int(2)),
-        ),
-        (
-            Op::PtrDiff(int),
-            pointer(0, 0),
-            pointer(0, 8),
-            Some(Value::Int(0xFFFF_FFFE)),
-        ),
-        (
-            Op::PtrDiff(int),
-            pointer(0, 0),
-            pointer(0, 7),
-            Some(minus_one),
-        ),
-        (Op::PtrDiff(int), pointer(0, 0), pointer(1, 0), None),
-        (Op::PtrDiff(int), pointer(3, 0), pointer(3, 0), None),
-        (Op::PtrDiff(int), null, null, None),
-    ];
-    for (op, left, right, want) in table {
-        assert_eq!(rt; memory.apply(op, &left, &right), want, "{op:?}");
-    }
     Ok(())
 }
 
@@ -371,90 +176,6 @@ fn pointers_are_compared(rt: HostRuntime) -> Result<(), Fail> {
     ];
     for (op, left, right, want) in table {
         assert_eq!(rt; memory.apply(op, &left, &right), want, "{op:?}");
-    }
-    Ok(())
-}
-
-#[test]
-fn stores_are_loaded(rt: HostRuntime) -> Result<(), Fail> {
-    let mut memory = blocks(&rt, rt.alloc())?;
-    let word = Value::Int(0x8765_43C8);
-    let stored: [(Width, Value, Width, Option<Value>); 8] = [
-        (Width::Word, word, Width::Word, Some(word)),
-        (
-            Width::Word,
-            word,
-            Width::Signed8,
-            Some(Value::Int(0xFFFF_FFC8)),
-        ),
-        (Width::Word, word, Width::Unsigned8, Some(Value::Int(200))),
-        (Width::Word, word, Width::Pointer, None),
-        (
-            Width::Pointer,
-            Value::Int(0),
-            Width::Word,
-            Some(Value::Int(0)),
-        ),
-        (
-            Width::Pointer,
-            pointer(3, 77),
-            Width::Pointer,
-            Some(pointer(3, 77)),
-        ),
-        (Width::Pointer, pointer(1, 0), Width::Word, None),
-        (Width::Pointer, pointer(1, 0), Width::Unsigned8, None),
-    ];
-    for (width, value, through, want) in stored {
-        assert_eq!(rt; memory.store(&pointer(0, 4), width, &value), Some(()));
-        assert_eq!(rt; memory.load(&pointer(0, 4), through), want, "{through:?}");
-    }
-    assert_eq!(rt;
-        memory.store(&pointer(0, 5), Width::Unsigned8, &Value::Int(0)),
-        Some(())
-    );
-    assert_eq!(rt;
-        memory.load(&pointer(0, 4), Width::Pointer),
-        None,
-        "a part is gone"
-    );
-    assert_eq!(rt;
-        memory.load(&pointer(0, 5), Width::Signed8),
-        Some(Value::Int(0))
-    );
-    assert_eq!(rt;
-        memory.load(&pointer(0, 0), Width::Word),
-        None,
-        "nothing was stored"
-    );
-    Ok(())
-}
-
-#[test]
-fn what_cannot_be_stored(rt: HostRuntime) -> Result<(), Fail> {
-    let mut memory = blocks(&rt, rt.alloc())?;
-    let one = Value::Int(1);
-    let refused: [(Value, Width, Value); 13] = [
-        (Value::Int(0), Width::Word, one),
-        (pointer(3, 0), Width::Word, one),
-        (pointer(4, 0), Width::Word, one),
-        (pointer(2, 0), Width::Word, one),
-        (pointer(2, 0), Width::Signed8, one),
-        (pointer(0, 2), Width::Word, one),
-        (pointer(0, 8), Width::Word, one),
-        (pointer(0, 8), Width::Unsigned8, one),
-        (pointer(0, 0xFFFF_FFFC), Width::Word, one),
-        (pointer(0, 0), Width::Word, pointer(0, 0)),
-        (pointer(0, 0), Width::Signed8, pointer(0, 0)),
-        (pointer(0, 0), Width::Pointer, one),
-        (pointer(0, 2), Width::Pointer, pointer(0, 0)),
-    ];
-    for (place, width, value) in refused {
-        assert_eq!(rt;
-            memory.store(&place, width, &value),
-            None,
-            "{place:?} {width:?}"
-        );
-        assert_eq!(rt; memory.load(&place, width), None, "{place:?} {width:?}");
     }
     Ok(())
 }

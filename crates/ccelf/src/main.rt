@@ -4,29 +4,39 @@
 
 use cc_base::{HostFiles, HostSink, HostSource};
 use ccelf_build::{Status, ccelf};
-use std::io::ErrorKind;
+use std::alloc::AllocError;
+use std::env::{Env, FillError};
 use std::process::ExitCode;
-use std::{env, io};
+use std::str;
 
-// The words after the program's name.
-fn words_of(rt: &HostRuntime) -> io::Result<Vec<String>> {
+// The most bytes of a word that Linux hands to a program, with the zero behind it: MAX_ARG_STRLEN.
+const MOST_OF_A_WORD: usize = 131072;
+
+// The words after the program's name, which is not read. None where one of them is no text.
+fn words_of(rt: &HostRuntime) -> Result<Option<Vec<String>>, AllocError> {
+    let mut room = vec![in rt.alloc(); 0; MOST_OF_A_WORD]?;
     let mut words = Vec::new(rt.alloc());
-    for word in env::args(rt)?.skip(1) {
-        words.push(word)?;
+    for number in 1..usize::MAX {
+        match rt.arg(number, room.as_mut_slice()) {
+            Ok(length) => {
+                let Ok(word) = str::from_utf8(&room[..length]) else {
+                    return Ok(None);
+                };
+                words.push(String::from_str(rt.alloc(), word)?)?;
+            }
+            Err(FillError::NotPresent) => return Ok(Some(words)),
+            Err(FillError::TooLong) => return Ok(None),
+        }
     }
-    Ok(words)
+    Ok(Some(words))
 }
 
 fn main(rt: HostRuntime) -> ExitCode {
     let words = match words_of(&rt) {
-        Ok(words) => words,
-        Err(error) => {
-            if error.kind() == ErrorKind::OutOfMemory {
-                return ExitCode::from(Status::Memory.number());
-            }
-            // Words that are no text fit no command, and neither do no words.
-            Vec::new(rt.alloc())
-        }
+        Ok(Some(words)) => words,
+        // Words that are no text fit no command, and neither do no words.
+        Ok(None) => Vec::new(rt.alloc()),
+        Err(_) => return ExitCode::from(Status::Memory.number()),
     };
     let mut files = HostFiles::new(&rt);
     let mut input = HostSource::new(rt.stdin());

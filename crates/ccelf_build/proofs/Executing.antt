@@ -7,7 +7,7 @@ use Rattle.elf_file.specs.Image.{IsImageOf}
 use Rattle.elf_file.specs.declared.image.ImageParts.{ImageParts}
 use Rattle.elf_linker.specs.Linked.{Linked}
 use Rattle.elf_linker.specs.Names.{link_fault}
-use Rattle.image_loader.specs.Load.{load_fault, image_after}
+use Rattle.elf_loader.specs.Load.{load_fault, image_after}
 use Rattle.second_code.specs.LinkedObjects.{linked_objects}
 use Rattle.command_words.specs.Commands.{AreNames, object_name}
 use Rattle.commands.specs.declared.answer.Answer.{Answer}
@@ -20,7 +20,7 @@ use Rattle.ccelf_build.specs.Laws.{Laws}
 use Rattle.ccelf_build.specs.Told.{Compiled, IsCompiled, RanFor, Comes, objects_of, items_of, SomePut, IsBuilt, exec_told}
 use Rattle.ccelf_build.proofs.Names.{units_apart}
 use Rattle.ccelf_build.proofs.Units.{Tells, put_more, put_one}
-use Rattle.second_source.specs.Laws.{source_refines}
+use Rattle.second_source.specs.laws.Means.{source_refines}
 use Rattle.ccelf_build.proofs.Made.{Sources, sources_of}
 use Rattle.ccelf_build.proofs.UnitLists.{files_of, same_first, PutFirst, UnitsRow, units_row, units_done, made_all}
 use Rattle.ccelf_build.proofs.Objects.{are_units, units_linked, UnitsLinked, runs_loaded}

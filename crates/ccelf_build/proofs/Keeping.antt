@@ -8,7 +8,7 @@ use Rattle.command_words.specs.Commands.{Request, Compile, Link, Run, Show, Exec
 use Rattle.commands.specs.declared.answer.Answer.{Answer}
 use Rattle.commands.specs.declared.answer.Answer.TheVariants as answer
 use Rattle.commands.specs.Doing.{Outside, Step, Command, Then, AndThen, Each}
-use Rattle.clight_print.specs.Canonical.{canonical_text}
+use Rattle.text_print.specs.Canonical.{canonical_text}
 use Rattle.commands.specs.Steps.{Fetches, Stores, Parses, GivesOut, Compiles, Keeps, CompilesTo, Links, Runs, RunsBy}
 use Rattle.commands.specs.Meanings.{ChecksText, Checks}
 use Rattle.commands.specs.Does.{does}

@@ -1,14 +1,14 @@
 -- What link comes to, where the files tell their bytes.
 use Rattle.std.proofs.Common.{◌≡◌, ◌∷◌, [], ℕ, List, map, length, None, Result, Ok, Err, inl, inr, refl, ap, ◌∙◌, sym, subst}
 use Rattle.cc_base.specs.Seen.{FilesSeen}
-use Rattle.clight_unit.specs.declared.unit.Unit.{Unit as TypedUnit}
-use Rattle.second_source.specs.Laws.{source_refines}
+use Rattle.clight_unit.specs.declared.unit.ClightUnit.{ClightUnit as TypedUnit}
+use Rattle.second_source.specs.laws.Means.{source_refines}
 use Rattle.pass_core.specs.Refines.{Refines}
 use Rattle.elf_file.specs.Object.{Object}
 use Rattle.elf_linker.specs.Linked.{Linked}
 use Rattle.elf_linker.specs.Names.{link_fault}
 use Rattle.elf_linker.specs.Runtime.{with_runtime}
-use Rattle.image_loader.specs.Load.{image_after}
+use Rattle.elf_loader.specs.Load.{image_after}
 use Rattle.second_code.specs.LinkedObjects.{unit_object}
 use Rattle.commands.specs.declared.answer.Answer.{Answer}
 use Rattle.commands.specs.declared.answer.Answer.TheVariants as answer

@@ -1,7 +1,7 @@
 -- Objects that were made of texts, by the items and by the typed units of these.
 use Rattle.std.proofs.Common.{ℕ, List, [], ◌∷◌, refl, subst}
-use Rattle.clight_unit.specs.declared.unit.Unit.{Unit as TypedUnit}
-use Rattle.clight_typing.specs.Typing.{Typed}
+use Rattle.clight_unit.specs.declared.unit.ClightUnit.{ClightUnit as TypedUnit}
+use Rattle.typing_units.specs.Typing.{Typed}
 use Rattle.second_form.specs.declared.second_items.Item.{Item}
 use Rattle.second_symbols.specs.Sources.{AreSources}
 use Rattle.second_code.specs.Parts.{parts_of}

@@ -7,11 +7,11 @@ use Rattle.cc_base.specs.Runs.{State, emitted, taken}
 use Rattle.cc_base.specs.declared.run.Act.{Act}
 use Rattle.cc_base.specs.declared.run.Outcome.{Outcome}
 use Rattle.cc_base.specs.declared.run.Outcome.TheVariants as outcome
-use Rattle.clight_text.specs.declared.fault.SyntaxFault.TheVariants as syntax
-use Rattle.clight_unit.specs.declared.unit.Unit.{Unit as TypedUnit}
+use Rattle.text_grammar.specs.declared.fault.SyntaxFault.TheVariants as syntax
+use Rattle.clight_unit.specs.declared.unit.ClightUnit.{ClightUnit as TypedUnit}
 use Rattle.clight_sem.specs.Turns.{source_after}
-use Rattle.clight_mean.specs.declared.meaning.MeanFault.TheVariants as fault
-use Rattle.clight_mean.specs.Means.{StandsSo, IsAsking, IsEmitting, ComesNext, Comes, faces}
+use Rattle.mean_source.specs.declared.meaning.MeanFault.TheVariants as fault
+use Rattle.mean_source.specs.Means.{StandsSo, IsAsking, IsEmitting, ComesNext, Comes, faces}
 use Rattle.commands.specs.declared.answer.Answer.{Answer}
 use Rattle.commands.specs.declared.answer.Answer.TheVariants as answer
 use Rattle.commands.specs.Doing.{Outside, Each}

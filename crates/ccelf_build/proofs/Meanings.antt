@@ -4,9 +4,9 @@ use Rattle.cc_base.specs.Seen.{FilesSeen, SourceSeen, SinkSeen}
 use Rattle.cc_base.specs.Outside.{SinkWanted}
 use Rattle.cc_base.specs.declared.run.Outcome.{Outcome}
 use Rattle.cc_base.specs.declared.run.Outcome.TheVariants as outcome
-use Rattle.clight_unit.specs.declared.unit.Unit.{Unit as TypedUnit}
-use Rattle.clight_mean.specs.declared.meaning.MeanFault.TheVariants as fault
-use Rattle.clight_mean.specs.Means.{After, StandsSo, IsEmitting, ComesNext, Comes}
+use Rattle.clight_unit.specs.declared.unit.ClightUnit.{ClightUnit as TypedUnit}
+use Rattle.mean_source.specs.declared.meaning.MeanFault.TheVariants as fault
+use Rattle.mean_source.specs.Means.{After, StandsSo, IsEmitting, ComesNext, Comes}
 use Rattle.commands.specs.declared.answer.Answer.{Answer}
 use Rattle.commands.specs.declared.answer.Answer.TheVariants as answer
 use Rattle.commands.specs.Doing.{Outside}

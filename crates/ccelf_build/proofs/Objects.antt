@@ -8,15 +8,15 @@ use Rattle.second_form.specs.SecondFaults.{source_fault, SourceFault}
 use Rattle.second_form.specs.SecondFaults as source
 use Rattle.elf_file.specs.Object.{Object, object_of}
 use Rattle.elf_file.specs.Read.{IsFileOf}
-use Rattle.elf_file.specs.Image.{IsImageOf}
+use Rattle.elf_file.specs.Image.{end_address, IsImageOf}
 use Rattle.elf_file.specs.declared.image.ImageParts.{ImageParts}
 use Rattle.elf_linker.specs.Linked.{Linked}
 use Rattle.elf_linker.specs.Names.{link_fault, too_long}
-use Rattle.elf_linker.specs.Placement.{last_end, whole_end}
+use Rattle.elf_linker.specs.Placement.{whole_end}
 use Rattle.elf_linker.specs.declared.fault.LinkFault.{LinkFault}
 use Rattle.elf_linker.specs.declared.fault.LinkFault.TheVariants as linking
-use Rattle.image_loader.specs.Load.{load_fault}
-use Rattle.image_loader.specs.declared.fault.LoadFault.{LoadFault}
+use Rattle.elf_loader.specs.Load.{load_fault}
+use Rattle.elf_loader.specs.declared.fault.LoadFault.{LoadFault}
 use Rattle.second_code.specs.Parts.{parts_of}
 use Rattle.second_code.specs.LinkedObjects.{IsUnit, unit_object, linked_objects}
 use Rattle.second_code.specs.FoundFaults.{IsFoundAs}
@@ -78,7 +78,7 @@ module _ (units : List (List Item)) where
   objects = linked_objects units
 
   doubled_is : (number symbol : ℕ) (fault : Option SourceFault) → IsFoundAs objects fault (link_fault objects) → link_fault objects ≡ Some (linking.Doubled number symbol) → fault ≡ Some (source.Doubled number (symbol_name objects number symbol))
-  doubled_is number symbol None found e = let clash : linking.Doubled number symbol ≡ linking.Range (whole_end objects) = range_only (nat_lt last_end (whole_end objects)) (whole_end objects) (linking.Doubled number symbol) (sym found ∙ e) in cc
+  doubled_is number symbol None found e = let clash : linking.Doubled number symbol ≡ linking.Range (whole_end objects) = range_only (nat_lt end_address (whole_end objects)) (whole_end objects) (linking.Doubled number symbol) (sym found ∙ e) in cc
   doubled_is number symbol (Some (source.Doubled unit name)) found e =
       let same = same_Some _ _ (sym e ∙ found.1) in
       let a : number ≡ unit = cc in let b : symbol ≡ found.0 = cc in
@@ -86,7 +86,7 @@ module _ (units : List (List Item)) where
   doubled_is number symbol (Some (source.Unresolved unit name)) found e = let clash = same_Some _ _ (sym e ∙ found.1) in cc
 
   unresolved_is : (number symbol : ℕ) (fault : Option SourceFault) → IsFoundAs objects fault (link_fault objects) → link_fault objects ≡ Some (linking.Unresolved number symbol) → fault ≡ Some (source.Unresolved number (symbol_name objects number symbol))
-  unresolved_is number symbol None found e = let clash : linking.Unresolved number symbol ≡ linking.Range (whole_end objects) = range_only (nat_lt last_end (whole_end objects)) (whole_end objects) (linking.Unresolved number symbol) (sym found ∙ e) in cc
+  unresolved_is number symbol None found e = let clash : linking.Unresolved number symbol ≡ linking.Range (whole_end objects) = range_only (nat_lt end_address (whole_end objects)) (whole_end objects) (linking.Unresolved number symbol) (sym found ∙ e) in cc
   unresolved_is number symbol (Some (source.Unresolved unit name)) found e =
       let same = same_Some _ _ (sym e ∙ found.1) in
       let a : number ≡ unit = cc in let b : symbol ≡ found.0 = cc in
@@ -95,7 +95,7 @@ module _ (units : List (List Item)) where
 
   no_sized : (number symbol stated defined : ℕ) (fault : Option SourceFault) → IsFoundAs objects fault (link_fault objects) → link_fault objects ≡ Some (linking.Sized number symbol stated defined) → ⊥
   no_sized number symbol stated defined None found e =
-      let clash : linking.Sized number symbol stated defined ≡ linking.Range (whole_end objects) = range_only (nat_lt last_end (whole_end objects)) (whole_end objects) (linking.Sized number symbol stated defined) (sym found ∙ e) in cc
+      let clash : linking.Sized number symbol stated defined ≡ linking.Range (whole_end objects) = range_only (nat_lt end_address (whole_end objects)) (whole_end objects) (linking.Sized number symbol stated defined) (sym found ∙ e) in cc
   no_sized number symbol stated defined (Some (source.Doubled unit name)) found e = let clash = same_Some _ _ (sym e ∙ found.1) in cc
   no_sized number symbol stated defined (Some (source.Unresolved unit name)) found e = let clash = same_Some _ _ (sym e ∙ found.1) in cc
 

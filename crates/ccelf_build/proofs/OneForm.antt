@@ -1,16 +1,16 @@
 -- A text has one tree and one list of items, or one rule that it breaks first.
 use Rattle.std.proofs.Common.{◌≡◌, List, ℕ, Some, None, refl, ap, sym, ◌∙◌, subst, inl, inr}
 use Rattle.std.specs.Prelude.{Result, Ok, Err}
-use Rattle.clight_text.specs.declared.tree.External.{External}
-use Rattle.clight_text.specs.declared.fault.SyntaxFault.{SyntaxFault}
-use Rattle.clight_text.specs.declared.fault.SyntaxFault.TheVariants as syntax
-use Rattle.clight_faults.specs.declared.fault.Row.{Row}
-use Rattle.clight_faults.specs.declared.fault.TypeKind.{TypeKind}
-use Rattle.clight_faults.specs.declared.fault.TypeKind.TheVariants as row
-use Rattle.clight_faults.specs.Faults.{told}
-use Rattle.clight_unit.specs.declared.unit.Unit.{Unit as TypedUnit}
-use Rattle.clight_typing.specs.Typing.{Typed, fault_of}
-use Rattle.clight_parser.specs.Parsing.{HasTree, OneAnswer}
+use Rattle.text_grammar.specs.declared.tree.External.{External}
+use Rattle.text_grammar.specs.declared.fault.SyntaxFault.{SyntaxFault}
+use Rattle.text_grammar.specs.declared.fault.SyntaxFault.TheVariants as syntax
+use Rattle.typing_faults.specs.declared.fault.Row.{Row}
+use Rattle.typing_faults.specs.declared.fault.TypeKind.{TypeKind}
+use Rattle.typing_faults.specs.declared.fault.TypeKind.TheVariants as row
+use Rattle.typing_faults.specs.Faults.{told}
+use Rattle.clight_unit.specs.declared.unit.ClightUnit.{ClightUnit as TypedUnit}
+use Rattle.typing_units.specs.Typing.{Typed, fault_of}
+use Rattle.text_parser.specs.Parsing.{HasTree, OneAnswer}
 use Rattle.second_form.specs.declared.second_items.Item.{Item}
 use Rattle.second_form.specs.SecondForm.{IsSecondForm, items_of}
 use Rattle.commands.specs.declared.answer.TypingKind.{TypingKind}

@@ -5,11 +5,11 @@ use Rattle.cc_base.specs.declared.face.SourceFault.{SourceFault}
 use Rattle.cc_base.specs.declared.face.SourceFault.TheVariants as source
 use Rattle.cc_base.specs.declared.run.Outcome.{Outcome}
 use Rattle.cc_base.specs.declared.run.Outcome.TheVariants as outcome
-use Rattle.clight_text.specs.declared.tree.External.{External}
-use Rattle.clight_faults.specs.declared.fault.Row.{Row}
-use Rattle.clight_unit.specs.declared.unit.Unit.{Unit as TypedUnit}
-use Rattle.clight_typing.specs.Typing.{unit_of}
-use Rattle.clight_mean.specs.Means.{faces}
+use Rattle.text_grammar.specs.declared.tree.External.{External}
+use Rattle.typing_faults.specs.declared.fault.Row.{Row}
+use Rattle.clight_unit.specs.declared.unit.ClightUnit.{ClightUnit as TypedUnit}
+use Rattle.typing_units.specs.Typing.{unit_of}
+use Rattle.mean_source.specs.Means.{faces}
 use Rattle.commands.specs.declared.answer.Status.{Status}
 use Rattle.commands.specs.declared.answer.Status.TheVariants as status
 use Rattle.commands.specs.Steps.{rule_kind, limit_kind, row_at, BreaksRule}

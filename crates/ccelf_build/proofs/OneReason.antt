@@ -4,10 +4,10 @@ use Rattle.std.specs.FinMap.{get}
 use Rattle.std.proofs.lemmas.Option.{same_Some, none-some}
 use Rattle.cc_base.specs.declared.run.Outcome.{Outcome}
 use Rattle.cc_base.specs.declared.run.Outcome.TheVariants as outcome
-use Rattle.clight_text.specs.declared.tree.External.{External}
-use Rattle.clight_text.specs.declared.fault.SyntaxFault.{SyntaxFault}
-use Rattle.clight_text.specs.declared.fault.SyntaxFault.TheVariants as syntax
-use Rattle.clight_parser.specs.Parsing.{HasAnswer, OneAnswer}
+use Rattle.text_grammar.specs.declared.tree.External.{External}
+use Rattle.text_grammar.specs.declared.fault.SyntaxFault.{SyntaxFault}
+use Rattle.text_grammar.specs.declared.fault.SyntaxFault.TheVariants as syntax
+use Rattle.text_parser.specs.Parsing.{HasAnswer, OneAnswer}
 use Rattle.second_form.specs.declared.second_items.Item.{Item}
 use Rattle.second_form.specs.SecondFaults.{source_fault, SourceFault}
 use Rattle.second_form.specs.SecondFaults as source
@@ -18,10 +18,10 @@ use Rattle.elf_linker.specs.Names.{link_fault, too_long}
 use Rattle.elf_linker.specs.Runtime.{with_runtime}
 use Rattle.elf_linker.specs.declared.fault.LinkFault.{LinkFault}
 use Rattle.elf_linker.specs.declared.fault.LinkFault.TheVariants as linking
-use Rattle.image_loader.specs.Load.{load_fault, image_after}
-use Rattle.image_loader.specs.declared.fault.LoadFault.{LoadFault}
+use Rattle.elf_loader.specs.Load.{load_fault, image_after}
+use Rattle.elf_loader.specs.declared.fault.LoadFault.{LoadFault}
 use Rattle.second_code.specs.LinkedObjects.{linked_objects}
-use Rattle.clight_faults.specs.declared.fault.Row.{Row}
+use Rattle.typing_faults.specs.declared.fault.Row.{Row}
 use Rattle.commands.specs.declared.answer.SyntaxKind.TheVariants as kind
 use Rattle.commands.specs.declared.answer.Status.{Status}
 use Rattle.commands.specs.declared.answer.Status.TheVariants as status

@@ -6,9 +6,9 @@ use Rattle.command_words.specs.Commands.{Request, Compile, Link, Run, Show, Exec
 use Rattle.commands.specs.declared.answer.Answer.{Answer}
 use Rattle.commands.specs.declared.answer.Answer.TheVariants as answer
 use Rattle.commands.specs.Doing.{Outside, Step, Command, Then, AndThen, Each}
-use Rattle.clight_print.specs.Canonical.{canonical_text}
+use Rattle.text_print.specs.Canonical.{canonical_text}
 use Rattle.commands.specs.Steps.{Fetches, Stores, Parses, GivesOut, Compiles, Keeps, CompilesTo, Links, Ran, Runs, RunsBy}
-use Rattle.clight_unit.specs.declared.unit.Unit.{Unit as TypedUnit}
+use Rattle.clight_unit.specs.declared.unit.ClightUnit.{ClightUnit as TypedUnit}
 use Rattle.clight_sem.specs.Turns.{source_after}
 use Rattle.commands.specs.Meanings.{ChecksText, Checks, room, MeansBy}
 use Rattle.commands.specs.Does.{does}

@@ -5,8 +5,8 @@ use Rattle.elf_file.specs.declared.image.ImageParts.{ImageParts}
 use Rattle.i386_machine.specs.declared.event.Cause.{Cause}
 use Rattle.i386_machine.specs.Runs.{after, outcome_of}
 use Rattle.cc_base.specs.declared.run.Outcome.TheVariants as outcome
-use Rattle.image_loader.specs.Load.{image_after}
-use Rattle.image_loader.specs.declared.fault.LoadFault.TheVariants as load
+use Rattle.elf_loader.specs.Load.{image_after}
+use Rattle.elf_loader.specs.declared.fault.LoadFault.TheVariants as load
 use Rattle.commands.specs.declared.answer.Answer.{Answer}
 use Rattle.commands.specs.declared.answer.Answer.TheVariants as answer
 use Rattle.commands.specs.declared.answer.Status.{Status}

@@ -2,8 +2,8 @@
 use Rattle.std.proofs.Common.{◌≡◌, ℕ, List, Some, None}
 use Rattle.elf_file.specs.Image.{IsImageOf}
 use Rattle.elf_file.specs.declared.image.ImageParts.{ImageParts}
-use Rattle.image_loader.specs.Load.{load_fault}
-use Rattle.image_loader.specs.declared.fault.LoadFault.TheVariants as load
+use Rattle.elf_loader.specs.Load.{load_fault}
+use Rattle.elf_loader.specs.declared.fault.LoadFault.TheVariants as load
 use Rattle.commands.specs.declared.answer.Answer.{Answer}
 use Rattle.commands.specs.declared.answer.Answer.TheVariants as answer
 use Rattle.commands.specs.Doing.{Outside}

@@ -2,9 +2,9 @@
 use Rattle.std.proofs.Common.{◌≡◌, ◌⊎◌, ℕ, List, Result, Ok, Err, inl, inr, ap, ◌∙◌, sym, subst}
 use Rattle.cc_base.specs.Seen.{SinkSeen}
 use Rattle.cc_base.specs.Outside.{SinkFailed, SinkWanted}
-use Rattle.clight_text.specs.declared.tree.External.{External}
-use Rattle.clight_parser.specs.Parsing.{HasTree}
-use Rattle.clight_print.specs.Canonical.{canonical_text}
+use Rattle.text_grammar.specs.declared.tree.External.{External}
+use Rattle.text_parser.specs.Parsing.{HasTree}
+use Rattle.text_print.specs.Canonical.{canonical_text}
 use Rattle.commands.specs.declared.answer.Answer.{Answer}
 use Rattle.commands.specs.declared.answer.Answer.TheVariants as answer
 use Rattle.commands.specs.Doing.{Outside, Command, Says, Then}

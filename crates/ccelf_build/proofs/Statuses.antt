@@ -1,7 +1,7 @@
 -- Which statuses a command may have.
 use Rattle.std.proofs.Common.{◌≡◌, ◌⊎◌, ◌∷◌, [], ℕ, List, map, length, Result, Ok, Err, refl, inl, inr, sym, subst}
-use Rattle.clight_text.specs.declared.tree.External.{External}
-use Rattle.clight_print.specs.Canonical.{canonical_text}
+use Rattle.text_grammar.specs.declared.tree.External.{External}
+use Rattle.text_print.specs.Canonical.{canonical_text}
 use Rattle.second_form.specs.declared.second_items.Item.{Item}
 use Rattle.elf_file.specs.declared.image.ImageParts.{ImageParts}
 use Rattle.command_words.specs.Commands.{Request, Compile, Link, Run, Show, Exec, Mean, object_name}
@@ -12,7 +12,7 @@ use Rattle.commands.specs.declared.answer.Status.TheVariants as status
 use Rattle.commands.specs.Answers.{status_of}
 use Rattle.commands.specs.Doing.{Outside, Step, Says, Then, AndThen, Each}
 use Rattle.commands.specs.Steps.{Fetches, Stores, Parses, GivesOut, Compiles, Keeps, CompilesTo, Links, LinkedFrom, Runs, RunsBy}
-use Rattle.clight_unit.specs.declared.unit.Unit.{Unit as TypedUnit}
+use Rattle.clight_unit.specs.declared.unit.ClightUnit.{ClightUnit as TypedUnit}
 use Rattle.commands.specs.Meanings.{ChecksText, Checks, MeansBy}
 use Rattle.commands.specs.Does.{does}
 use Rattle.cc_base.specs.Seen.{SinkSeen}

@@ -5,9 +5,9 @@ use Rattle.command_words.specs.Commands.{object_name}
 use Rattle.commands.specs.declared.answer.Answer.{Answer}
 use Rattle.commands.specs.declared.answer.Answer.TheVariants as answer
 use Rattle.commands.specs.Doing.{Outside, Step, Each}
-use Rattle.clight_text.specs.declared.fault.SyntaxFault.{SyntaxFault}
-use Rattle.clight_faults.specs.declared.fault.Row.{Row}
-use Rattle.clight_text.specs.declared.fault.SyntaxFault.TheVariants as syntax
+use Rattle.text_grammar.specs.declared.fault.SyntaxFault.{SyntaxFault}
+use Rattle.typing_faults.specs.declared.fault.Row.{Row}
+use Rattle.text_grammar.specs.declared.fault.SyntaxFault.TheVariants as syntax
 use Rattle.commands.specs.Steps.{CompilesTo, fault_at, rule_kind, limit_kind, row_at}
 use Rattle.ccelf_build.specs.Contents.{Contents, IsAbsent, IsLong, AreAll, FirstStop, NamedBytes, DidPut}
 use Rattle.ccelf_build.specs.Told.{Compiled, IsCompiled, HasNoUnit, HasFault, HasBroken, objects_of, items_of}

@@ -6,7 +6,7 @@ use Rattle.cc_base.specs.Outside.{file_limit}
 use Rattle.commands.specs.declared.answer.Answer.{Answer}
 use Rattle.commands.specs.declared.answer.Answer.TheVariants as answer
 use Rattle.commands.specs.Doing.{Outside, AndThen}
-use Rattle.clight_text.specs.declared.fault.SyntaxFault.TheVariants as syntax
+use Rattle.text_grammar.specs.declared.fault.SyntaxFault.TheVariants as syntax
 use Rattle.commands.specs.Steps.{Fetches, Stores, Compiles, Keeps, CompilesTo, fault_at, rule_kind, limit_kind, row_at}
 use Rattle.ccelf_build.specs.Contents.{Contents, StandsAt, IsAbsent, IsLong, NamedBytes, put_all, DidPut}
 use Rattle.ccelf_build.specs.Told.{Compiled, IsCompiled, HasNoUnit, HasFault, HasBroken}

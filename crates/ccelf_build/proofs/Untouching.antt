@@ -7,9 +7,9 @@ use Rattle.commands.specs.declared.answer.Answer.{Answer}
 use Rattle.commands.specs.declared.answer.Answer.TheVariants as answer
 use Rattle.commands.specs.declared.answer.Status.{Status}
 use Rattle.commands.specs.Doing.{Outside, Step, Command, Then, AndThen, Each}
-use Rattle.clight_print.specs.Canonical.{canonical_text}
+use Rattle.text_print.specs.Canonical.{canonical_text}
 use Rattle.commands.specs.Steps.{Fetches, Stores, Parses, GivesOut, Compiles, Keeps, CompilesTo, Links, Runs, RunsBy}
-use Rattle.clight_unit.specs.declared.unit.Unit.{Unit as TypedUnit}
+use Rattle.clight_unit.specs.declared.unit.ClightUnit.{ClightUnit as TypedUnit}
 use Rattle.commands.specs.Meanings.{Checks}
 use Rattle.commands.specs.Does.{does}
 use Rattle.ccelf_build.specs.Ends.{Ends}

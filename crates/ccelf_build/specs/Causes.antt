@@ -4,21 +4,21 @@ use Rattle.cc_base.specs.declared.run.Outcome.{Outcome}
 use Rattle.cc_base.specs.declared.run.Outcome.TheVariants as outcome
 use Rattle.cc_base.specs.Faces.{Linkable, source_fault as name_fault}
 use Rattle.cc_base.specs.declared.face.SourceFault.TheVariants as naming
-use Rattle.clight_text.specs.declared.tree.External.{External}
-use Rattle.clight_text.specs.declared.fault.SyntaxFault.TheVariants as syntax
+use Rattle.text_grammar.specs.declared.tree.External.{External}
+use Rattle.text_grammar.specs.declared.fault.SyntaxFault.TheVariants as syntax
 use Rattle.second_form.specs.declared.second_items.Item.{Item}
 use Rattle.second_form.specs.SecondFaults.{source_fault}
 use Rattle.second_form.specs.SecondFaults as source
 use Rattle.pass_core.specs.Refines.{Sound}
-use Rattle.clight_mean.specs.Means.{faces}
+use Rattle.mean_source.specs.Means.{faces}
 use Rattle.elf_file.specs.Object.{Object}
 use Rattle.elf_file.specs.declared.image.ImageParts.{ImageParts}
 use Rattle.elf_linker.specs.Names.{link_fault, too_long}
 use Rattle.elf_linker.specs.Runtime.{with_runtime}
 use Rattle.elf_linker.specs.declared.fault.LinkFault.{LinkFault}
 use Rattle.elf_linker.specs.declared.fault.LinkFault.TheVariants as linking
-use Rattle.image_loader.specs.Load.{image_after}
-use Rattle.image_loader.specs.declared.fault.LoadFault.{LoadFault}
+use Rattle.elf_loader.specs.Load.{image_after}
+use Rattle.elf_loader.specs.declared.fault.LoadFault.{LoadFault}
 use Rattle.second_code.specs.LinkedObjects.{linked_objects}
 use Rattle.commands.specs.declared.answer.SyntaxKind.{SyntaxKind}
 use Rattle.commands.specs.declared.answer.TypingKind.{TypingKind}

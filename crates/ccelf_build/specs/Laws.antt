@@ -1,8 +1,8 @@
 -- Laws of the crates below that the promises rest on.
 use Rattle.std.specs.Prelude.{◌≡◌, ℕ, List, All, None, Result}
-use Rattle.clight_text.specs.declared.tree.External.{External}
-use Rattle.clight_text.specs.declared.fault.SyntaxFault.{SyntaxFault}
-use Rattle.clight_parser.specs.Parsing.{HasAnswer, OneAnswer}
+use Rattle.text_grammar.specs.declared.tree.External.{External}
+use Rattle.text_grammar.specs.declared.fault.SyntaxFault.{SyntaxFault}
+use Rattle.text_parser.specs.Parsing.{HasAnswer, OneAnswer}
 use Rattle.second_form.specs.declared.second_items.Item.{Item}
 use Rattle.second_form.specs.SecondFaults.{source_fault}
 use Rattle.second_form.specs.SecondRun.{second_after}
@@ -12,7 +12,7 @@ use Rattle.elf_file.specs.declared.parts.ObjectParts.{ObjectParts}
 use Rattle.elf_file.specs.declared.image.ImageParts.{ImageParts}
 use Rattle.elf_linker.specs.Linked.{Linked}
 use Rattle.elf_linker.specs.Names.{link_fault}
-use Rattle.image_loader.specs.Load.{image_after, load_fault}
+use Rattle.elf_loader.specs.Load.{image_after, load_fault}
 use Rattle.pass_core.specs.Refines.{Refines}
 use Rattle.second_code.specs.FoundFaults.{IsFoundAs}
 use Rattle.second_code.specs.LinkedObjects.{IsUnit, linked_objects}

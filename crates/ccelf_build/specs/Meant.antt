@@ -6,9 +6,9 @@ use Rattle.cc_base.specs.Runs.{emitted, taken}
 use Rattle.cc_base.specs.declared.face.SourceFault.TheVariants as source
 use Rattle.cc_base.specs.declared.run.Act.{Act}
 use Rattle.cc_base.specs.declared.run.Outcome.TheVariants as outcome
-use Rattle.clight_text.specs.declared.fault.SyntaxFault.TheVariants as syntax
-use Rattle.clight_unit.specs.declared.unit.Unit.{Unit as TypedUnit}
-use Rattle.clight_mean.specs.Means.{IsLeast, IsAsking, IsEmitting, faces}
+use Rattle.text_grammar.specs.declared.fault.SyntaxFault.TheVariants as syntax
+use Rattle.clight_unit.specs.declared.unit.ClightUnit.{ClightUnit as TypedUnit}
+use Rattle.mean_source.specs.Means.{IsLeast, IsAsking, IsEmitting, faces}
 use Rattle.commands.specs.declared.answer.Answer.TheVariants as answer
 use Rattle.commands.specs.Doing.{Outside, Command}
 use Rattle.commands.specs.Steps.{fault_at, rule_kind, limit_kind, row_at, file_name}

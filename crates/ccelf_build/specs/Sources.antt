@@ -1,7 +1,7 @@
 -- Texts of units with their typed units, and what these mean where they are linked.
 use Rattle.std.specs.Prelude.{ℕ, List}
 use Rattle.cc_base.specs.Runs.{State}
-use Rattle.clight_unit.specs.declared.unit.Unit.{Unit as TypedUnit}
+use Rattle.clight_unit.specs.declared.unit.ClightUnit.{ClightUnit as TypedUnit}
 use Rattle.clight_sem.specs.Turns.{source_after}
 use Rattle.commands.specs.Meanings.{HasUnit, room}
 use Rattle.ccelf_build.specs.Contents.{Contents, StandsAt, AreAll}

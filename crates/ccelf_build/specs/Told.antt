@@ -5,13 +5,13 @@ use Rattle.cc_base.specs.Outside.{SinkFailed, SinkWanted, grown}
 use Rattle.cc_base.specs.Runs.{emitted, taken}
 use Rattle.cc_base.specs.declared.run.Act.{Act}
 use Rattle.cc_base.specs.declared.run.Outcome.TheVariants as outcome
-use Rattle.clight_text.specs.declared.tree.External.{External}
-use Rattle.clight_text.specs.declared.fault.SyntaxFault.{SyntaxFault}
-use Rattle.clight_faults.specs.declared.fault.Row.{Row}
-use Rattle.clight_text.specs.declared.fault.SyntaxFault.TheVariants as syntax
-use Rattle.clight_parser.specs.Parsing.{HasTree, HasAnswer}
-use Rattle.clight_print.specs.Canonical.{canonical_text}
-use Rattle.clight_unit.specs.declared.unit.Unit.{Unit as TypedUnit}
+use Rattle.text_grammar.specs.declared.tree.External.{External}
+use Rattle.text_grammar.specs.declared.fault.SyntaxFault.{SyntaxFault}
+use Rattle.typing_faults.specs.declared.fault.Row.{Row}
+use Rattle.text_grammar.specs.declared.fault.SyntaxFault.TheVariants as syntax
+use Rattle.text_parser.specs.Parsing.{HasTree, HasAnswer}
+use Rattle.text_print.specs.Canonical.{canonical_text}
+use Rattle.clight_unit.specs.declared.unit.ClightUnit.{ClightUnit as TypedUnit}
 use Rattle.second_form.specs.declared.second_items.Item.{Item}
 use Rattle.second_form.specs.SecondFaults.{source_fault}
 use Rattle.second_form.specs.SecondFaults as source
@@ -26,9 +26,9 @@ use Rattle.elf_linker.specs.declared.fault.LinkFault.TheVariants as linking
 use Rattle.i386_machine.specs.declared.event.Cause.{Cause}
 use Rattle.i386_machine.specs.declared.event.Standing.TheVariants as standing
 use Rattle.i386_machine.specs.Runs.{after}
-use Rattle.image_loader.specs.Load.{load_fault, image_after, loaded}
-use Rattle.image_loader.specs.declared.fault.LoadFault.{LoadFault}
-use Rattle.image_loader.specs.declared.fault.LoadFault.TheVariants as load
+use Rattle.elf_loader.specs.Load.{load_fault, image_after, loaded}
+use Rattle.elf_loader.specs.declared.fault.LoadFault.{LoadFault}
+use Rattle.elf_loader.specs.declared.fault.LoadFault.TheVariants as load
 use Rattle.second_code.specs.Parts.{parts_of}
 use Rattle.second_code.specs.LinkedObjects.{linked_objects}
 use Rattle.command_words.specs.Commands.{object_name}

@@ -1,31 +1,18 @@
-// Units that are compiled alone, linked, loaded and run.
+// Units that are compiled alone and linked: what stands in the image, byte for byte.
 ghost use Rattle.std.specs.Prelude.{◌≤◌, IfOk};
 ghost use Rattle.elf_file.specs.Image.{WellFormedImage};
 
-use cc_base::{Bytes, Calls, MemSink, MemSource};
-use clight_parser::parse;
-use elf_file::{
-    ImageParts, ObjectParts, RelocParts, SymbolParts, read_image, read_object, write_image,
-    write_object,
-};
+use cc_base::Bytes;
+use elf_file::{ImageParts, ObjectParts, RelocParts, SymbolParts, read_object, write_object};
 use elf_linker::{Inputs, LinkFault, link, runtime_parts};
-use i386_machine::{RunEnd, run};
-use image_loader::load;
 use second_code::unit_object;
 use std::alloc::{AllocError, Global};
 use std::test::Fail;
+use text_parser::parse;
 
 const A: &str = "int f(void); int main(void) { f(); putbyte(66); return 3; }";
 
 const B: &str = "int f(void) { putbyte(65); return 0; }";
-
-const STATIC_B: &str = "static int f(void) { putbyte(65); return 0; }";
-
-const OWN_F: &str =
-    "static int f(void) { putbyte(65); return 0; } int main(void) { f(); putbyte(66); return 3; }";
-
-const F_AND_NO_H: &str =
-    "int h(void); int f(void) { return 1; } int main(void) { h(); f(); return 0; }";
 
 /// The code of A and B at 0x08049000 and 0x08049020, and the runtime at 0x08049040. Relocated words are S + A - P, where A
 /// is -4: at 1 0x20 - 4 - 1, at 12 0x40 + 70 - 4 - 12, at 0x27 0x40 + 70 - 4 - 0x27, and at 0x41 0 - 4 - 0x41.
@@ -91,58 +78,6 @@ fn linked(alloc: Global, files: &[Vec<u8>]) -> Result<Result<ImageParts, LinkFau
         inputs.add(read_object(alloc, file.as_slice())?)?;
     }
     Ok(link(alloc, &inputs))
-}
-
-#[test]
-fn names_are_found(rt: HostRuntime) -> Result<(), Fail> {
-    let f = 1;
-    let main_of_runtime = 2;
-    let rows: [(&[&str], Option<LinkFault>); 8] = [
-        (&[A, B], None),
-        (&[B, A], None),
-        (&[OWN_F, B], None),
-        (
-            &[A],
-            Some(LinkFault::Unresolved {
-                object: 0,
-                symbol: f,
-            }),
-        ),
-        (
-            &[A, STATIC_B],
-            Some(LinkFault::Unresolved {
-                object: 0,
-                symbol: f,
-            }),
-        ),
-        (
-            &[B],
-            Some(LinkFault::Unresolved {
-                object: 1,
-                symbol: main_of_runtime,
-            }),
-        ),
-        (
-            &[A, B, B],
-            Some(LinkFault::Doubled {
-                object: 2,
-                symbol: f,
-            }),
-        ),
-        (
-            &[F_AND_NO_H, B],
-            Some(LinkFault::Doubled {
-                object: 1,
-                symbol: f,
-            }),
-        ),
-    ];
-    for (units, want) in rows {
-        let files = compiled(rt.alloc(), units)?;
-        let image = linked(rt.alloc(), files.as_slice())?;
-        assert_eq!(rt; image.err(), want, "{units:?}");
-    }
-    Ok(())
 }
 
 #[test]
@@ -242,36 +177,6 @@ fn texts_end_at_the_last_address(rt: HostRuntime) -> Result<(), Fail> {
         files.extend(compiled(rt.alloc(), &["int main(void) { return 7; }"])?)?;
         let image = linked(rt.alloc(), files.as_slice())?;
         assert_eq!(rt; image.err(), want, "{size}");
-    }
-    Ok(())
-}
-
-#[test]
-fn linked_units_run(rt: HostRuntime) -> Result<(), Fail> {
-    let rows: [(&[&str], u32, RunEnd); 4] = [
-        (&[A, B], 33, RunEnd::Ended(3)),
-        (&[A, B], 32, RunEnd::Spent),
-        (&[B, A], 33, RunEnd::Ended(3)),
-        (
-            &[OWN_F, "int f(void) { putbyte(67); return 0; }"],
-            33,
-            RunEnd::Ended(3),
-        ),
-    ];
-    for (units, steps, want) in rows {
-        let files = compiled(rt.alloc(), units)?;
-        let image = linked(rt.alloc(), files.as_slice())?
-            .ok()
-            .expect(&rt, "an image");
-        let file = write_image(rt.alloc(), &image)?;
-        assert!(rt; file.len() < 5000);
-        let view = read_image(rt.alloc(), file.as_slice())?;
-        let mut machine = load(rt.alloc(), &view).ok().expect(&rt, "a machine");
-        let mut input = MemSource::new(Bytes::new(rt.alloc()), Calls::new(rt.alloc()));
-        let mut output = MemSink::new(rt.alloc(), Calls::new(rt.alloc()));
-        let end = run(&mut machine, steps, &mut input, &mut output);
-        assert_eq!(rt; end, want, "{units:?}");
-        assert_eq!(rt; output.bytes(), b"AB".as_slice(), "{units:?}");
     }
     Ok(())
 }

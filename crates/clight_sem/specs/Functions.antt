@@ -8,7 +8,7 @@ use Rattle.cc_base.specs.Faces.{first_answer}
 use Rattle.cc_base.specs.declared.face.SymbolName.{SymbolName}
 use Rattle.block_mem.specs.Start.{UnitParts, is_own, is_seen, is_shared, object_in, object_of, meant}
 use Rattle.block_mem.specs.declared.value.BlockName.{BlockName}
-use Rattle.clight_unit.specs.declared.unit.Unit.{Unit as TypedUnit}
+use Rattle.clight_unit.specs.declared.unit.ClightUnit.{ClightUnit as TypedUnit}
 use Rattle.clight_unit.specs.declared.function.Function.{Function}
 use Rattle.clight_unit.specs.declared.signature.Callee.{Callee}
 use Rattle.clight_unit.specs.declared.signature.Callee.TheVariants as callee
@@ -16,8 +16,8 @@ use Rattle.clight_unit.specs.declared.signature.Signature.{Signature}
 use Rattle.clight_unit.specs.declared.signature.ValueType.{ValueType}
 use Rattle.clight_unit.specs.declared.signature.ValueBase.{ValueBase}
 use Rattle.clight_unit.specs.declared.signature.ValueBase.TheVariants as base
-use Rattle.clight_sem.specs.declared.meaning.Meaning.{Meaning}
-use Rattle.clight_sem.specs.declared.meaning.Meaning.TheVariants as meaning
+use Rattle.unit_names.specs.declared.meaning.Meaning.{Meaning}
+use Rattle.unit_names.specs.declared.meaning.Meaning.TheVariants as meaning
 
 -- Types. Structs are compared by their tags alone, where C11, 6.2.7, looks at the members of structs of two units too
 

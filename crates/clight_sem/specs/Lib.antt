@@ -3,4 +3,6 @@ pub mod Functions
 pub mod States
 pub mod Turns
 pub mod Prices
-pub mod Laws
+pub mod Named
+pub mod Bounds
+pub mod laws

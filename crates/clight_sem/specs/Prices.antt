@@ -1,5 +1,5 @@
 -- What turns cost: how many instructions of an image stand for one at most (this project's own rule).
-use Rattle.std.specs.Prelude.{ℕ, ◌+◌, ◌*◌, List, [], ◌∷◌, Option, Some, None}
+use Rattle.std.specs.Prelude.{ℕ, ◌+◌, ◌-◌, ◌*◌, List, [], ◌∷◌, Option, Some, None}
 use Rattle.clight_unit.specs.declared.expression.Expression.{Expression}
 use Rattle.clight_unit.specs.declared.expression.Expression.TheOpen.{Expression-F, Test-F, Place-F}
 use Rattle.clight_unit.specs.declared.expression.Expression.TheFolds.{fold-Expression, fold-Test, fold-Place}
@@ -80,11 +80,12 @@ abbrev pub simple_nodes : Simple → ℕ
 simple_nodes (simple.Assign a) = target_nodes a.target + expression_nodes a.value.expression
 simple_nodes (simple.Call c) = target_nodes_if_any c.target + arguments_nodes c.arguments
 
--- the value of a local's initialiser, the conditions of all arms of an `if`, the condition of a `while`, the value of a `return`
+-- the value of a local's initialiser and its place less one node (the declarator: in a unit that `check` gives the place adds none),
+-- the conditions of all arms of an `if`, the condition of a `while`, the value of a `return`
 abbrev pub statement_nodes : Statement-F Statement Arm → ℕ
 statement_nodes Statement-F.Empty = 0
 statement_nodes (Statement-F.Block body) = 0
-statement_nodes (Statement-F.Initialise a) = expression_nodes a.value.expression
+statement_nodes (Statement-F.Initialise a) = (target_nodes a.target - 1) + expression_nodes a.value.expression
 statement_nodes (Statement-F.Simple x) = simple_nodes x
 statement_nodes (Statement-F.If arms last) = arms_nodes arms
 statement_nodes (Statement-F.While test body) = test_nodes test

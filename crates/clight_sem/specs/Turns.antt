@@ -1,7 +1,7 @@
 -- Turns: one turn takes the first item of what the newest call has still to do. A case for each item (C11, 6.8 and 6.5.2.2, of the
 -- subset; that a run is counted in turns is this project's own rule). Where a part has no value the run goes wrong, and the turn
 -- does nothing to the outside.
-use Rattle.std.specs.Prelude.{ℕ, ◌+◌, ◌%◌, Bool, true, false, cond, nat_le, List, [], ◌∷◌, ◌++◌, map, replicate, set, Option, Some, None, option_map}
+use Rattle.std.specs.Prelude.{ℕ, ◌+◌, ◌%◌, Bool, true, false, cond, eqb, nat_le, List, length, [], ◌∷◌, ◌++◌, map, replicate, set, Option, Some, None, option_map}
 use Rattle.cc_base.specs.Runs.{State}
 use Rattle.cc_base.specs.declared.run.Act.{Act}
 use Rattle.cc_base.specs.declared.run.Act.TheVariants as act
@@ -15,7 +15,7 @@ use Rattle.block_mem.specs.declared.value.Value.{Value}
 use Rattle.block_mem.specs.declared.value.Value.TheVariants.{Int, Ptr}
 use Rattle.block_mem.specs.declared.value.Width.{Width}
 use Rattle.block_mem.specs.declared.operator.Op.{Op}
-use Rattle.clight_unit.specs.declared.unit.Unit.{Unit as TypedUnit}
+use Rattle.clight_unit.specs.declared.unit.ClightUnit.{ClightUnit as TypedUnit}
 use Rattle.clight_unit.specs.declared.function.Function.{Function}
 use Rattle.clight_unit.specs.declared.expression.Test.{Test}
 use Rattle.clight_unit.specs.declared.statement.Statement.{Statement, out-Statement}
@@ -30,8 +30,8 @@ use Rattle.clight_unit.specs.declared.statement.Target.TheVariants as target
 use Rattle.clight_unit.specs.declared.statement.Value.{Value as Converted}
 use Rattle.clight_sem.specs.declared.destination.Destination.{Destination}
 use Rattle.clight_sem.specs.declared.destination.Destination.TheVariants as to
-use Rattle.clight_sem.specs.declared.meaning.Meaning.{Meaning}
-use Rattle.clight_sem.specs.declared.meaning.Meaning.TheVariants as meaning
+use Rattle.unit_names.specs.declared.meaning.Meaning.{Meaning}
+use Rattle.unit_names.specs.declared.meaning.Meaning.TheVariants as meaning
 use Rattle.clight_sem.specs.Values.{Scene, convert, value_of, place_of, holds, converted, all_converted}
 use Rattle.clight_sem.specs.Functions.{Linked, linked, all_parts, callee_at, function_at, main_of, is_main_of, has_no_result}
 use Rattle.clight_sem.specs.States.{Item, Whole, Alone, Again, TestOfDo, TestOfFor, StepOfFor, whole, alone, behind_loop, from_loop, Frame, World, Turned, On, Asks, Gives, Ends, Run, Going, Over, seen, wrong, on, scene_of, with_left, before, needs}
@@ -97,9 +97,10 @@ new_frame unit f activation arguments d = record { unit = unit; function = f; ac
 abbrev pub if_room : Linked → World → Turned
 if_room p w = cond (nat_le (needs (w.top ∷ w.below)) p.room) (On w) (Ends outcome.Deep)
 
+-- a call has as many arguments as its function has parameters, or goes wrong; in no unit that `check` gives is there another call
 abbrev pub entered : Linked → Blocks → ℕ → ℕ → Option Function → List Value → Destination → List Frame → Turned
 entered p m calls unit None arguments d below = wrong
-entered p m calls unit (Some f) arguments d below = if_room p (record { memory = with_locals m calls 0 f.locals; calls = calls + 1; top = new_frame unit f calls arguments d; below = below })
+entered p m calls unit (Some f) arguments d below = cond (eqb (length arguments) (length f.signature.parameters)) (if_room p (record { memory = with_locals m calls 0 f.locals; calls = calls + 1; top = new_frame unit f calls arguments d; below = below })) wrong
 
 -- `getbyte` asks for a byte. Where its result cannot go where it is to go the run goes wrong, and no byte is asked for. What takes
 -- -1 takes every byte

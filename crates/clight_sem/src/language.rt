@@ -1,18 +1,19 @@
 // The source as a language.
 ghost use Rattle.std.specs.Prelude.{ℕ, List};
 ghost use Rattle.cc_base.specs.Runs.{GrowsAt};
-ghost use Rattle.clight_unit.specs.declared.unit.Unit.{Unit as UnitValue};
+ghost use Rattle.clight_unit.specs.declared.unit.ClightUnit.{ClightUnit as UnitValue};
+ghost use Rattle.clight_sem.specs.Bounds.{bulk, hold};
 ghost use Rattle.clight_sem.specs.Turns.{source_after};
-ghost use Rattle.clight_sem.specs.Laws.{source_grows};
+ghost use Rattle.clight_sem.specs.laws.Growth.{source_grows};
 
-use clight_unit::Unit;
-use pass_core::Language;
+use clight_unit::ClightUnit;
+use pass_core::{Bounded, Language};
 
 /// The source: linked typed units, whose objects are named blocks. There is one layout, and it is proper.
 pub struct Clight;
 
 impl Language for Clight {
-    type Unit = Unit;
+    type Unit = ClightUnit;
 
     type Layout = ();
 
@@ -22,7 +23,13 @@ impl Language for Clight {
 
     ghost after = { λ units layout room input n. source_after units room input n };
 
-    ghost grows = { λ units layout room input n proper allowed. source_grows units room input n };
+    ghost grows = { λ units layout room input n. source_grows units room input n };
+}
+
+impl Bounded for Clight {
+    ghost bulk = { bulk };
+
+    ghost hold = { hold };
 }
 
 /// The law of the source's runs, as a fact that a caller gets: a turn only adds acts, and a run that is over stays as it is.

@@ -18,4 +18,4 @@ pub use expression::{Expression, Place, Test};
 pub use function::Function;
 pub use signature::{Callee, Signature, ValueBase, ValueType};
 pub use statement::{Arm, Assignment, Call, Simple, Statement, Target, Value};
-pub use unit::Unit;
+pub use unit::ClightUnit;

@@ -1,5 +1,5 @@
 // The needs of two functions: `int f(int n)` with four statements and a register local, and a `main` that calls it.
-use crate::{Function, Signature, Unit, ValueBase, ValueType};
+use crate::{ClightUnit, Function, Signature, ValueBase, ValueType};
 use cc_base::{Face, Sequence};
 use sqlite_items::Items;
 use std::alloc::{AllocError, Global};
@@ -28,11 +28,11 @@ fn function(alloc: Global, symbol: u32, nodes: u32, need: u32) -> Function {
     }
 }
 
-fn unit(alloc: Global) -> Result<Unit, AllocError> {
+fn unit(alloc: Global) -> Result<ClightUnit, AllocError> {
     let mut functions = Items::new(alloc);
     functions.push(function(alloc, 0, 16, 324))?;
     functions.push(function(alloc, 1, 8, 372))?;
-    Ok(Unit {
+    Ok(ClightUnit {
         face: Face {
             defs: Sequence::new(alloc),
             uses: Sequence::new(alloc),

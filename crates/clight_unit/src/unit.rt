@@ -10,7 +10,7 @@ use sqlite_items::Items;
 
 /// A unit whose types are decided.
 #[derive(Drop)]
-pub struct Unit {
+pub struct ClightUnit {
     pub face: Face,
     /// The names of its symbols. Functions and statements name a symbol by its number there.
     pub symbol_names: SymbolNames,
@@ -24,7 +24,7 @@ pub struct Unit {
     pub nodes: u32,
 }
 
-impl Unit {
+impl ClightUnit {
     /// What other units see of it.
     pub fn face(&self) -> &Face
         ensures { result.now ≡ self.now.face }

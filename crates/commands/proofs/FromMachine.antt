@@ -14,9 +14,9 @@ use Rattle.i386_machine.specs.Step.{Doing, Asks, Gives, doing, stepped}
 use Rattle.i386_machine.specs.Runs as i386
 use Rattle.commands.specs.declared.answer.Answer.TheVariants as answer
 use Rattle.elf_file.specs.declared.image.ImageParts.{ImageParts}
-use Rattle.image_loader.specs.Load.{loaded, load_fault, image_after}
-use Rattle.image_loader.specs.declared.fault.LoadFault.{LoadFault}
-use Rattle.image_loader.specs.declared.fault.LoadFault.TheVariants as load
+use Rattle.elf_loader.specs.Load.{loaded, load_fault, image_after}
+use Rattle.elf_loader.specs.declared.fault.LoadFault.{LoadFault}
+use Rattle.elf_loader.specs.declared.fault.LoadFault.TheVariants as load
 use Rattle.commands.specs.Doing.{outside}
 use Rattle.commands.specs.Steps.{Ran, Stands, NextDoes, IsAsked, IsGiven, CutOff, RunsBy}
 

@@ -4,12 +4,12 @@ use Rattle.std.specs.Prelude.{string_bytes}
 use Rattle.std.specs.declared.alloc.Global.{Global}
 use Rattle.std.proofs.lemmas.List.{length-map}
 use Rattle.cc_base.specs.Seen.{FilesSeen, SourceSeen, SinkSeen}
-use Rattle.clight_unit.specs.declared.unit.Unit.{Unit as TypedUnit}
-use Rattle.clight_run.specs.declared.running.MeanEnd.{MeanEnd}
-use Rattle.clight_run.specs.declared.running.MeanEnd.TheVariants as end
-use Rattle.clight_mean.specs.Means.{Means}
-use Rattle.clight_mean.specs.declared.meaning.MeanFault.{MeanFault}
-use Rattle.clight_mean.specs.declared.meaning.MeanFault.TheVariants as fault
+use Rattle.clight_unit.specs.declared.unit.ClightUnit.{ClightUnit as TypedUnit}
+use Rattle.mean_run.specs.declared.running.MeanEnd.{MeanEnd}
+use Rattle.mean_run.specs.declared.running.MeanEnd.TheVariants as end
+use Rattle.mean_source.specs.Means.{Means}
+use Rattle.mean_source.specs.declared.meaning.MeanFault.{MeanFault}
+use Rattle.mean_source.specs.declared.meaning.MeanFault.TheVariants as fault
 use Rattle.command_words.specs.Orders.{texts}
 use Rattle.commands.specs.declared.answer.Answer.{Answer}
 use Rattle.commands.specs.declared.answer.Answer.TheVariants as answer

@@ -1,8 +1,8 @@
 -- A unit that is got, parsed, and shown.
 use Rattle.std.proofs.Common.{◌≡◌, ℕ, List, Result, Ok, Err, refl, subst, inl, inr}
 use Rattle.cc_base.specs.Seen.{FilesSeen, SourceSeen, SinkSeen}
-use Rattle.clight_text.specs.declared.tree.External.{External}
-use Rattle.clight_print.specs.Canonical.{canonical_text}
+use Rattle.text_grammar.specs.declared.tree.External.{External}
+use Rattle.text_print.specs.Canonical.{canonical_text}
 use Rattle.commands.specs.declared.answer.Answer.{Answer}
 use Rattle.commands.specs.declared.answer.Answer.TheVariants as answer
 use Rattle.commands.specs.Doing.{outside}

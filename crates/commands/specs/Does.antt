@@ -1,6 +1,6 @@
 -- What each command does, in this order.
 use Rattle.std.specs.Prelude.{ℕ, List, length, map}
-use Rattle.clight_print.specs.Canonical.{canonical_text}
+use Rattle.text_print.specs.Canonical.{canonical_text}
 use Rattle.command_words.specs.Commands.{Request, Compile, Link, Run, Show, Exec, Mean, object_name}
 use Rattle.commands.specs.declared.answer.Answer.TheVariants as answer
 use Rattle.commands.specs.Doing.{Command, Says, Then, Each}

@@ -3,15 +3,15 @@ use Rattle.std.specs.Prelude.{◌≡◌, ℕ, List, [], codes, slice_get, Result
 use Rattle.std.specs.Option.{option_map_or}
 use Rattle.cc_base.specs.declared.face.Def.{Def}
 use Rattle.cc_base.specs.declared.face.Wanted.{Wanted}
-use Rattle.clight_text.specs.declared.tree.External.{External}
-use Rattle.clight_parser.specs.Parsing.{HasTree}
-use Rattle.clight_unit.specs.declared.unit.Unit.{Unit as TypedUnit}
-use Rattle.clight_typing.specs.Typing.{Typed}
-use Rattle.clight_run.specs.declared.running.MeanEnd.{MeanEnd}
-use Rattle.clight_run.specs.declared.running.MeanEnd.TheVariants as end
-use Rattle.clight_mean.specs.Means.{Means}
-use Rattle.clight_mean.specs.declared.meaning.MeanFault.{MeanFault}
-use Rattle.clight_mean.specs.declared.meaning.MeanFault.TheVariants as fault
+use Rattle.text_grammar.specs.declared.tree.External.{External}
+use Rattle.text_parser.specs.Parsing.{HasTree}
+use Rattle.clight_unit.specs.declared.unit.ClightUnit.{ClightUnit as TypedUnit}
+use Rattle.typing_units.specs.Typing.{Typed}
+use Rattle.mean_run.specs.declared.running.MeanEnd.{MeanEnd}
+use Rattle.mean_run.specs.declared.running.MeanEnd.TheVariants as end
+use Rattle.mean_source.specs.Means.{Means}
+use Rattle.mean_source.specs.declared.meaning.MeanFault.{MeanFault}
+use Rattle.mean_source.specs.declared.meaning.MeanFault.TheVariants as fault
 use Rattle.commands.specs.declared.answer.Answer.{Answer}
 use Rattle.commands.specs.declared.answer.Answer.TheVariants as answer
 use Rattle.commands.specs.Doing.{Outside, Step, Command, AndThen}

@@ -7,15 +7,15 @@ use Rattle.cc_base.specs.declared.run.Act.{Act}
 use Rattle.cc_base.specs.declared.run.Act.TheVariants.{Took, AtEnd, Gave}
 use Rattle.cc_base.specs.declared.run.Outcome.{Outcome}
 use Rattle.cc_base.specs.declared.run.Outcome.TheVariants as outcome
-use Rattle.clight_text.specs.declared.tree.External.{External}
-use Rattle.clight_text.specs.declared.fault.SyntaxFault.{SyntaxFault}
-use Rattle.clight_text.specs.declared.fault.SyntaxFault.TheVariants as syntax
-use Rattle.clight_faults.specs.declared.fault.Row.{Row}
-use Rattle.clight_faults.specs.declared.fault.TypeKind.{TypeKind}
-use Rattle.clight_faults.specs.declared.fault.TypeKind.TheVariants as row
-use Rattle.clight_unit.specs.declared.unit.Unit.{Unit as TypedUnit}
-use Rattle.clight_typing.specs.Typing.{Typed, fault_of}
-use Rattle.clight_parser.specs.Parsing.{HasTree, HasAnswer}
+use Rattle.text_grammar.specs.declared.tree.External.{External}
+use Rattle.text_grammar.specs.declared.fault.SyntaxFault.{SyntaxFault}
+use Rattle.text_grammar.specs.declared.fault.SyntaxFault.TheVariants as syntax
+use Rattle.typing_faults.specs.declared.fault.Row.{Row}
+use Rattle.typing_faults.specs.declared.fault.TypeKind.{TypeKind}
+use Rattle.typing_faults.specs.declared.fault.TypeKind.TheVariants as row
+use Rattle.clight_unit.specs.declared.unit.ClightUnit.{ClightUnit as TypedUnit}
+use Rattle.typing_units.specs.Typing.{Typed, fault_of}
+use Rattle.text_parser.specs.Parsing.{HasTree, HasAnswer}
 use Rattle.second_form.specs.SecondForm.{IsSecondForm}
 use Rattle.second_form.specs.declared.second_items.Item.{Item}
 use Rattle.second_code.specs.Parts.{parts_of}
@@ -28,8 +28,8 @@ use Rattle.elf_linker.specs.Linked.{Linked, object_at}
 use Rattle.elf_linker.specs.Names.{link_fault}
 use Rattle.elf_linker.specs.Runtime.{with_runtime}
 use Rattle.elf_linker.specs.declared.fault.LinkFault.TheVariants as fault
-use Rattle.image_loader.specs.Load.{load_fault, image_after, loaded}
-use Rattle.image_loader.specs.declared.fault.LoadFault.TheVariants as load
+use Rattle.elf_loader.specs.Load.{load_fault, image_after, loaded}
+use Rattle.elf_loader.specs.declared.fault.LoadFault.TheVariants as load
 use Rattle.i386_machine.specs.declared.event.Cause.{Cause}
 use Rattle.i386_machine.specs.declared.event.Standing.TheVariants as standing
 use Rattle.i386_machine.specs.Runs.{after}

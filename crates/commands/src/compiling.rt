@@ -10,12 +10,12 @@ ghost use Rattle.commands.specs.Steps.{Parsed, HasTypes, Compiled, CompilesTo};
 use crate::answer::{Answer, SyntaxKind, TypingKind, UnitLimit};
 use crate::files::{Contents, fetch, keep, store};
 use cc_base::{Bytes, Files, Name};
-use clight_parser::parse;
-use clight_text::{SyntaxFault, Tree};
-use clight_typing::{TypeFault, TypeKind, check};
-use clight_unit::Unit;
+use clight_unit::ClightUnit;
 use second_code::unit_object;
 use std::alloc::Global;
+use text_grammar::{SyntaxFault, Tree};
+use text_parser::parse;
+use typing_units::{TypeFault, TypeKind, check};
 
 // The tree of a text, which has this name. The name is copied first: after a refusal there may be no memory for it.
 pub(crate) fn parse_text(alloc: Global, name: &str, text: &[u8]) -> Result<Tree, Answer>
@@ -37,7 +37,7 @@ pub(crate) fn parse_text(alloc: Global, name: &str, text: &[u8]) -> Result<Tree,
 }
 
 // The typed unit of a tree in the file of this name. The name is copied first: after a refusal there may be no memory for it.
-pub(crate) fn check_tree(alloc: Global, name: &str, tree: &Tree) -> Result<Unit, Answer>
+pub(crate) fn check_tree(alloc: Global, name: &str, tree: &Tree) -> Result<ClightUnit, Answer>
     ensures { HasTypes name.now tree.now result }
 {
     let Ok(file) = Name::from_slice(alloc, name.as_bytes()) else {

@@ -11,15 +11,15 @@ use crate::compiling::{check_tree, parse_text};
 use crate::files::fetch;
 use crate::linking::{copy, file_of};
 use cc_base::{Files, Name, Sequence, Sink, Source};
-use clight_mean::{MeanEnd, MeanFault, mean};
-use clight_unit::Unit;
+use clight_unit::ClightUnit;
+use mean_source::{MeanEnd, MeanFault, mean};
 use std::alloc::Global;
 
 // The typed units of texts, in their order.
-pub(crate) type Units = Sequence<Unit>;
+pub(crate) type Units = Sequence<ClightUnit>;
 
 // The typed unit of a text, which has this name.
-fn check_text(alloc: Global, name: &str, text: &[u8]) -> Result<Unit, Answer>
+fn check_text(alloc: Global, name: &str, text: &[u8]) -> Result<ClightUnit, Answer>
     ensures { Checked name.now text.now result }
 {
     let tree = parse_text(alloc, name, text)?;
@@ -27,7 +27,7 @@ fn check_text(alloc: Global, name: &str, text: &[u8]) -> Result<Unit, Answer>
 }
 
 // Gets a unit and checks its types.
-fn check_file<F: Files>(alloc: Global, files: &mut F, name: &str) -> Result<Unit, Answer>
+fn check_file<F: Files>(alloc: Global, files: &mut F, name: &str) -> Result<ClightUnit, Answer>
     ensures { (input : SourceSeen) (output : SinkSeen) → Checks name.now (outside (F.seen files.old) input output) result (outside (F.seen files.new) input output) }
 {
     let text = fetch(alloc, files, name)?;
@@ -35,7 +35,7 @@ fn check_file<F: Files>(alloc: Global, files: &mut F, name: &str) -> Result<Unit
 }
 
 // Keeps one more unit.
-fn keep_unit(units: &mut Units, unit: Unit) -> Result<(), Answer>
+fn keep_unit(units: &mut Units, unit: ClightUnit) -> Result<(), Answer>
     ensures kept { OnOk result (units.new ≡ units.old ++ unit ∷ []) }
     ensures memory { IfErr result (λ told. told ≡ Answer.Memory) }
 {
@@ -62,7 +62,7 @@ pub(crate) fn check_all<F: Files>(
 }
 
 // The name of a definition, by the numbers of its unit and of itself.
-fn def_name<'u>(units: &'u [Unit], unit: u32, index: u32) -> &'u [u8]
+fn def_name<'u>(units: &'u [ClightUnit], unit: u32, index: u32) -> &'u [u8]
     ensures { result.now ≡ def_name units.now unit index }
 {
     match units.get(unit as usize) {
@@ -75,7 +75,7 @@ fn def_name<'u>(units: &'u [Unit], unit: u32, index: u32) -> &'u [u8]
 }
 
 // The name of a use. The runtime, which has the number after the last unit, uses main.
-fn use_name<'u>(units: &'u [Unit], unit: u32, index: u32) -> &'u [u8]
+fn use_name<'u>(units: &'u [ClightUnit], unit: u32, index: u32) -> &'u [u8]
     ensures { result.now ≡ use_name units.now unit index }
 {
     match units.get(unit as usize) {
@@ -102,7 +102,7 @@ fn end_told(end: MeanEnd) -> Answer
 fn fault_told(
     alloc: Global,
     names: &[String],
-    units: &[Unit],
+    units: &[ClightUnit],
     fault: MeanFault,
 ) -> Result<Answer, Answer>
     ensures told { IfOk result (λ told. told ≡ fault_told (texts names.now) units.now fault) }
@@ -140,7 +140,7 @@ fn fault_told(
 pub(crate) fn mean_units<S: Source, O: Sink>(
     alloc: Global,
     names: &[String],
-    units: &[Unit],
+    units: &[ClightUnit],
     steps: u32,
     input: &mut S,
     output: &mut O,

@@ -7,8 +7,8 @@ ghost use Rattle.commands.specs.Steps.{Runs};
 use crate::answer::Answer;
 use cc_base::{Name, Sink, Source};
 use elf_file::{ElfFault, read_image};
+use elf_loader::{LoadFault, load};
 use i386_machine::{RunEnd, run};
-use image_loader::{LoadFault, load};
 use std::alloc::Global;
 
 // Reads the bytes of an image, which has this name, loads them and runs them, for so many steps at most. The files have

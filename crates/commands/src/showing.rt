@@ -10,8 +10,8 @@ use crate::compiling::parse_text;
 use crate::files::fetch;
 use crate::giving::give_all;
 use cc_base::{Files, GiveFault, Sink};
-use clight_print::print;
 use std::alloc::Global;
+use text_print::print;
 
 // Gives a text to the output.
 fn give_out<O: Sink>(text: &[u8], output: &mut O) -> Result<(), Answer>

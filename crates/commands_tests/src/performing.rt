@@ -81,31 +81,6 @@ fn units_are_compiled_and_linked_later(rt: HostRuntime) -> Result<(), Fail> {
     Ok(())
 }
 
-#[test]
-fn units_run(rt: HostRuntime) -> Result<(), Fail> {
-    let alloc = rt.alloc();
-    let rows: [(&str, Status, &str, &[u8]); 5] = [
-        ("exec 33 out a.c b.c", Status::Done, "exit 3\n", b"AB"),
-        ("exec 32 out a.c b.c", Status::Spent, "spent\n", b"AB"),
-        ("exec 33 out b.c a.c", Status::Done, "exit 3\n", b"AB"),
-        ("exec 33 out a.c d.c", Status::Missing, "missing d.c\n", b""),
-        ("exec 33 out", Status::Words, "words\n", b""),
-    ];
-    for (words, status, report, bytes) in rows {
-        let mut files = units(alloc)?;
-        let mut output = MemSink::new(alloc, Calls::new(alloc));
-        let answer = answer_of(alloc, words, &mut files, &mut output)?;
-        assert_eq!(rt; answer.status(), status, "{words}");
-        assert_eq!(rt;
-            line(alloc, &answer)?.as_slice(),
-            report.as_bytes(),
-            "{words}"
-        );
-        assert_eq!(rt; output.bytes(), bytes, "{words}");
-    }
-    Ok(())
-}
-
 // Texts that are shown, and texts that are no unit's or pass a limit.
 #[test]
 fn texts_are_parsed(rt: HostRuntime) -> Result<(), Fail> {
@@ -196,40 +171,6 @@ fn texts_are_parsed(rt: HostRuntime) -> Result<(), Fail> {
             "{words}"
         );
         assert_eq!(rt; output.bytes(), bytes, "{words}");
-    }
-    Ok(())
-}
-
-// A text of so many pairs of parentheses, and one that is too long.
-#[test]
-fn limits_of_texts(rt: HostRuntime) -> Result<(), Fail> {
-    let alloc = rt.alloc();
-    let mut files = MemFiles::new(alloc, Calls::new(alloc));
-    let mut deep = Bytes::from_slice(alloc, b"int main(void) { return ")?;
-    for _ in 0..200 {
-        deep.push(b'(')?;
-    }
-    files.put(alloc, "deep.c", deep.as_slice())?;
-    let mut long = Bytes::new(alloc);
-    for _ in 0..1_048_577 {
-        long.push(b' ')?;
-    }
-    files.put(alloc, "long.c", long.as_slice())?;
-    let mut output = MemSink::new(alloc, Calls::new(alloc));
-    let rows = [
-        ("compile deep.c a.o", "deep.c: limit deep 223\n"),
-        ("show deep.c", "deep.c: limit deep 223\n"),
-        ("compile long.c a.o", "long.c: limit text\n"),
-        ("show long.c", "long.c: limit text\n"),
-    ];
-    for (words, report) in rows {
-        let answer = answer_of(alloc, words, &mut files, &mut output)?;
-        assert_eq!(rt; answer.status(), Status::Limit, "{words}");
-        assert_eq!(rt;
-            line(alloc, &answer)?.as_slice(),
-            report.as_bytes(),
-            "{words}"
-        );
     }
     Ok(())
 }

@@ -7,7 +7,7 @@ use Rattle.std.proofs.lemmas.List.{take_all}
 use Rattle.elf_file.specs.Places.{words_bytes, Stands}
 use Rattle.elf_file.specs.Pieces.{joined}
 use Rattle.elf_file.specs.Written.{ZerosUpTo}
-use Rattle.elf_file.specs.Image.{offset_of, image_header, image_end, WellFormedImage, WrittenBySegment, WrittenImage}
+use Rattle.elf_file.specs.Image.{first_address, offset_of, image_header, image_end, WellFormedImage, WrittenBySegment, WrittenImage}
 use Rattle.elf_file.specs.ImageNumbers.{program_words, image_headers, contents_at, numbers_of}
 use Rattle.elf_file.specs.declared.image.ImageParts.{ImageParts}
 use Rattle.elf_file.specs.declared.image.SegmentPart.{SegmentPart}
@@ -43,7 +43,7 @@ pub image_end-is : (entry : ℕ) (segment : SegmentPart) → image_end segment �
 image_end-is entry segment = ends_by segment (nat_eq (length segment.bytes) 0) refl
 
 -- the contents do not stand before the headers' end
-pub contents_behind : (n : Numbers) → 0x08049000 ≤ n.start → 84 ≤ contents_at n
+pub contents_behind : (n : Numbers) → first_address ≤ n.start → 84 ≤ contents_at n
 contents_behind n h = ⊎_elim (λ (p : (n.file_size ≡ 0) × (contents_at n ≡ 84)). omega arith) (λ (p : (0 < n.file_size) × (contents_at n ≡ offset_of n.start)). omega arith) (placed n)
 
 pub contents_of : (n : Numbers) → 0 < n.file_size → contents_at n ≡ offset_of n.start
@@ -76,7 +76,7 @@ pub contents_stand : (parts : ImageParts) (segment : SegmentPart) (file : List �
 contents_stand parts segment file w = contents_by parts segment file w (some_or_none (length segment.bytes))
 
 -- what was written is the image
-pub WrittenImage-pieces : (parts : ImageParts) (segment : SegmentPart) → parts.segments ≡ segment ∷ [] → 0x08049000 ≤ segment.start → WrittenImage parts (joined (image_pieces (numbers_of parts.entry segment) segment.bytes))
+pub WrittenImage-pieces : (parts : ImageParts) (segment : SegmentPart) → parts.segments ≡ segment ∷ [] → first_address ≤ segment.start → WrittenImage parts (joined (image_pieces (numbers_of parts.entry segment) segment.bytes))
 WrittenImage-pieces parts segment one from =
     let n = numbers_of parts.entry segment in
     let s = joined_stand (image_pieces n segment.bytes) in
@@ -97,7 +97,7 @@ WrittenImage-pieces parts segment one from =
     )
 
 -- and nothing else is
-pub image_is : (parts : ImageParts) (segment : SegmentPart) (file : List ℕ) → 0x08049000 ≤ segment.start → WrittenBySegment parts segment file → file ≡ joined (image_pieces (numbers_of parts.entry segment) segment.bytes)
+pub image_is : (parts : ImageParts) (segment : SegmentPart) (file : List ℕ) → first_address ≤ segment.start → WrittenBySegment parts segment file → file ≡ joined (image_pieces (numbers_of parts.entry segment) segment.bytes)
 image_is parts segment file from w =
     let n = numbers_of parts.entry segment in
     let pieces = image_pieces n segment.bytes in
@@ -138,12 +138,12 @@ numbers_with entry segment size = record { entry = entry; start = segment.start;
 length-image_headers : (n : Numbers) → length (joined (image_headers n)) ≡ 84
 length-image_headers n = length-joined (image_headers n)
 
-written_at_once : (parts : ImageParts) (got : SegmentPart) (bytes empty headed filled file : List ℕ) (start len : ℕ) (n : Numbers) → n ≡ numbers_of parts.entry got → 0x08049000 ≤ got.start
+written_at_once : (parts : ImageParts) (got : SegmentPart) (bytes empty headed filled file : List ℕ) (start len : ℕ) (n : Numbers) → n ≡ numbers_of parts.entry got → first_address ≤ got.start
     → Steps parts got bytes empty headed filled file start len n → file ≡ joined (image_pieces n bytes)
 written_at_once parts got bytes empty headed filled file start len n e from steps =
     let H = joined (image_headers n) in
     let zs : List ℕ = replicate (contents_at n - 84) 0 in
-    let low : 0x08049000 ≤ n.start = omega (arith, ap (λ (m : Numbers). m.start) e) in
+    let low : first_address ≤ n.start = omega (arith, ap (λ (m : Numbers). m.start) e) in
     let behind = contents_behind n low in
     let head : headed ≡ H = steps.headers ∙ ap (λ (xs : List ℕ). xs ++ H) steps.none in
     let long : length headed ≡ 84 = ap length head ∙ length-image_headers n in
@@ -158,7 +158,7 @@ pub WrittenImage-made : (parts : ImageParts) (got : SegmentPart) (bytes empty he
 WrittenImage-made parts got bytes empty headed filled file start len n f is steps =
     let e : n ≡ numbers_of parts.entry got = steps.numbers ∙ ap (λ (xs : List ℕ). numbers_with parts.entry got (length xs)) steps.bytes_are in
     let one : parts.segments ≡ got ∷ [] = f.one ∙ ap (λ (s : SegmentPart). s ∷ []) (sym is) in
-    let from : 0x08049000 ≤ got.start = omega (arith, f.from, ap (λ (s : SegmentPart). s.start) is) in
+    let from : first_address ≤ got.start = omega (arith, f.from, ap (λ (s : SegmentPart). s.start) is) in
     let whole : file ≡ joined (image_pieces (numbers_of parts.entry got) got.bytes) =
     written_at_once parts got bytes empty headed filled file start len n e from steps ∙ ap (λ (m : Numbers). joined (image_pieces m bytes)) e ∙ ap (λ (xs : List ℕ). joined (image_pieces (numbers_of parts.entry got) xs)) steps.bytes_are in
     let P : List ℕ → Type 0 = λ xs. WrittenImage parts xs in

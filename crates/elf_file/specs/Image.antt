@@ -5,9 +5,21 @@ use Rattle.elf_file.specs.Written.{ZerosUpTo}
 use Rattle.elf_file.specs.declared.image.ImageParts.{ImageParts}
 use Rattle.elf_file.specs.declared.image.SegmentPart.{SegmentPart}
 
+-- the address of the beginning of the file
+abbrev pub file_address : ℕ
+file_address = 0x08048000
+
+-- the first address that a segment may have
+abbrev pub first_address : ℕ
+first_address = 0x08049000
+
+-- the end of all addresses of an image
+abbrev pub end_address : ℕ
+end_address = 0x09048000
+
 -- the place in the file of what stands at an address
 abbrev pub offset_of : ℕ → ℕ
-offset_of address = address - 0x08048000
+offset_of address = address - file_address
 
 -- e_ident: ELF, 32 bits, the low byte first, version 1. Then e_type 2 (ET_EXEC), e_machine 3 (EM_386); e_version 1, e_entry, e_phoff 52, e_shoff, e_flags;
 -- e_ehsize 52, e_phentsize 32, e_phnum 1, and nothing of sections
@@ -19,14 +31,14 @@ image_header entry = (0x7f ∷ 0x45 ∷ 0x4c ∷ 0x46 ∷ 1 ∷ 1 ∷ 1 ∷ 0 �
 abbrev pub program_header : SegmentPart → List ℕ
 program_header segment = words_bytes (1 ∷ offset_of segment.start ∷ segment.start ∷ segment.start ∷ length segment.bytes ∷ segment.size ∷ segment.flags ∷ 4096 ∷ [])
 
--- There is one segment. It has a size above 0 and no more bytes than its size, and lies from 0x08049000 up to 0x09048000.
+-- There is one segment. It has a size above 0 and no more bytes than its size, and lies from the first address up to the end of all.
 pub record WellFormedImage (parts : ImageParts) : Type 0 where
   pub segment : SegmentPart
   pub one : parts.segments ≡ segment ∷ []
   pub some : 0 < segment.size
   pub short : length segment.bytes ≤ segment.size
-  pub from : 0x08049000 ≤ segment.start
-  pub to : segment.start + segment.size ≤ 0x09048000
+  pub from : first_address ≤ segment.start
+  pub to : segment.start + segment.size ≤ end_address
 
 -- the numbers that nothing else bounds have 32 bits
 pub record ImageInRange (parts : ImageParts) (segment : SegmentPart) : Type 0 where

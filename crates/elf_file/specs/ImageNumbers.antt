@@ -3,7 +3,7 @@ use Rattle.std.specs.Prelude.{◌≡◌, ℕ, ◌+◌, ◌<◌, ◌≤◌, ◌==
 use Rattle.elf_file.specs.Places.{word_at, words_bytes, Stands}
 use Rattle.elf_file.specs.Written.{ZerosUpTo}
 use Rattle.elf_file.specs.Object.{bytes_in}
-use Rattle.elf_file.specs.Image.{offset_of, image_header}
+use Rattle.elf_file.specs.Image.{first_address, end_address, offset_of, image_header}
 use Rattle.elf_file.specs.declared.image.ImageParts.{ImageParts}
 use Rattle.elf_file.specs.declared.image.SegmentPart.{SegmentPart}
 use Rattle.elf_file.specs.declared.image_headers.Numbers.{Numbers}
@@ -28,12 +28,12 @@ numbers_of entry segment = record { entry = entry; start = segment.start; file_s
 abbrev pub numbers_in : List ℕ → Numbers
 numbers_in file = record { entry = word_at file 24; start = word_at file 60; file_size = word_at file 68; size = word_at file 72; flags = word_at file 76 }
 
--- the segment has a size above 0 and no more bytes than its size, and lies from 0x08049000 up to 0x09048000
+-- the segment has a size above 0 and no more bytes than its size, and lies from the first address up to the end of all
 pub record Proper (n : Numbers) : Type 0 where
   pub some : 0 < n.size
   pub short : n.file_size ≤ n.size
-  pub from : 0x08049000 ≤ n.start
-  pub to : n.start + n.size ≤ 0x09048000
+  pub from : first_address ≤ n.start
+  pub to : n.start + n.size ≤ end_address
 
 -- the headers are those of an image with these numbers: e_ident, e_type and e_machine; the words behind them; the sizes and counts; the program header
 pub record HeadersStand (file : List ℕ) (n : Numbers) : Type 0 where

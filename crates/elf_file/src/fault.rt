@@ -4,16 +4,13 @@ ghost use Rattle.std.specs.Prelude.{◌≡◌};
 ghost use Rattle.elf_file.specs.declared.fault.ElfFault.TheVariants.{Memory};
 
 use std::alloc::AllocError;
-use thiserror::Error;
 
 /// Why a file cannot be read.
-#[derive(Clone, Copy, Debug, PartialEq, Eq, Error)]
+#[derive(Clone, Copy, Debug, PartialEq, Eq)]
 pub enum ElfFault {
     /// It is not the file that is written for an object of text alone.
-    #[error("the file has another form")]
     Form,
     /// There is not enough memory to check it.
-    #[error("there is not enough memory")]
     Memory,
 }
 

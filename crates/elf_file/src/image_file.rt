@@ -6,7 +6,7 @@ ghost use Rattle.elf_file.specs.ImageNumbers.{image_headers};
 ghost use Rattle.elf_file.specs.declared.image.ImageParts.{ImageParts};
 
 use crate::bytes::put_words;
-use crate::image::ImageParts;
+use crate::image::{FILE_ADDRESS, ImageParts};
 use crate::image_headers::{COUNTS, IDENT, Numbers, contents_at, header_words, program_words};
 use std::alloc::{AllocError, Global};
 
@@ -34,7 +34,7 @@ pub fn write_image(alloc: Global, parts: &ImageParts) -> Result<Vec<u8>, AllocEr
 
 // Appends the file header and the program header of an image with these numbers.
 fn put_headers(out: &mut Vec<u8>, numbers: Numbers) -> Result<(), AllocError>
-    requires { 0x08048000 ≤ numbers.start }
+    requires { FILE_ADDRESS ≤ numbers.start }
     ensures { OnOk result (out.new.items ≡ out.old.items ++ joined (image_headers numbers)) }
 {
     out.extend_from_slice(IDENT)?;

@@ -2,6 +2,8 @@
 ghost use Rattle.std.specs.Prelude.{◌≡◌, ◌≤◌, [], ◌∷◌};
 ghost use Rattle.elf_file.specs.ImageNumbers.{program_words as words_of, contents_at as place_of_contents};
 
+use crate::image::FILE_ADDRESS;
+
 /// `e_ident` (ELF, 32 bits, the low byte first, version 1), `e_type` 2 (ET_EXEC) and `e_machine` 3 (EM_386).
 pub(crate) const IDENT: &[u8; 20] = b"\x7fELF\x01\x01\x01\0\0\0\0\0\0\0\0\0\x02\0\x03\0";
 
@@ -12,9 +14,6 @@ pub(crate) const COUNTS: &[u8; 12] = b"\x34\0\x20\0\x01\0\0\0\0\0\0\0";
 pub(crate) const FILE_HEADER: u32 = 52;
 
 pub(crate) const HEADERS: u32 = 84;
-
-/// The address that stands at the beginning of the file.
-const FILE_START: u32 = 0x0804_8000;
 
 /// PT_LOAD, the type of a segment that is loaded.
 const LOAD: u32 = 1;
@@ -41,13 +40,13 @@ pub(crate) fn header_words(numbers: Numbers) -> [u32; 5]
 
 /// The program header.
 pub(crate) fn program_words(numbers: Numbers) -> [u32; 8]
-    requires { 0x08048000 ≤ numbers.start }
+    requires { FILE_ADDRESS ≤ numbers.start }
     ensures { result ≡ words_of numbers }
 {
     let start = numbers.start;
     [
         LOAD,
-        start - FILE_START,
+        start - FILE_ADDRESS,
         start,
         start,
         numbers.file_size,
@@ -59,12 +58,12 @@ pub(crate) fn program_words(numbers: Numbers) -> [u32; 8]
 
 /// Where the segment's bytes stand in the file. Where there are none, that is the end of the headers.
 pub(crate) fn contents_at(numbers: Numbers) -> u32
-    requires { 0x08048000 ≤ numbers.start }
+    requires { FILE_ADDRESS ≤ numbers.start }
     ensures { result ≡ place_of_contents numbers }
 {
     if numbers.file_size == 0 {
         HEADERS
     } else {
-        numbers.start - FILE_START
+        numbers.start - FILE_ADDRESS
     }
 }

@@ -4,15 +4,11 @@ ghost use Rattle.elf_file.specs.Places.{Stands, words_bytes};
 ghost use Rattle.elf_file.specs.ImageNumbers.{numbers_in, Proper, HeadersStand, ContentsStand, ImageStands};
 
 use crate::fields::word_at;
+use crate::image::{END_ADDRESS, FIRST_ADDRESS};
 use crate::image_headers::{
     COUNTS, FILE_HEADER, HEADERS, IDENT, Numbers, contents_at, header_words, program_words,
 };
 use crate::read::{stands, zeros_stand};
-
-/// The first address that a segment may have, and the end of the last.
-const FIRST_ADDRESS: u32 = 0x0804_9000;
-
-const END_ADDRESS: u64 = 0x0904_8000;
 
 // The numbers that the headers give.
 pub(crate) fn numbers_of(file: &[u8]) -> Numbers

@@ -21,7 +21,7 @@ mod view;
 mod write;
 
 pub use fault::ElfFault;
-pub use image::{ImageParts, SegmentPart, SegmentParts};
+pub use image::{END_ADDRESS, FILE_ADDRESS, FIRST_ADDRESS, ImageParts, SegmentPart, SegmentParts};
 pub use image_file::{image_has_one_file, write_image};
 pub use image_view::{ImageView, image_has_one_meaning, read_image};
 pub use parts::{

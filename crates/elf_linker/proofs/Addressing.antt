@@ -5,6 +5,7 @@ use Rattle.std.specs.List.{list_any}
 use Rattle.std.specs.Str.{bytes_eq}
 use Rattle.std.proofs.lemmas.Option.{none-some, same_Some}
 use Rattle.std.proofs.lemmas.Slice.Eq.{bytes_eq-Decides}
+use Rattle.elf_file.specs.Image.{end_address}
 use Rattle.elf_file.specs.Object.{Object, object_of, symbol_of, no_symbol}
 use Rattle.elf_file.specs.Read.{OnlyText}
 use Rattle.elf_file.specs.WellFormed.{IsPlaced as IsPlacedIn, SymbolFits, section_sizes}
@@ -22,7 +23,7 @@ use Rattle.elf_linker.proofs.Placing.{object_read, text_size, near}
 
 -- a place in one of the sections of an object with text alone, behind an address of text or behind all text
 place_inside : (parts : ObjectParts) → OnlyText parts → (symbol : SymbolPart) (section : ℕ) → IsPlacedIn (section_sizes parts) symbol (At section) → (text behind : ℕ)
-    → text + length parts.text ≤ 151289856 → behind ≤ 151289856 → (if section == 1 then text else behind) + symbol.value ≤ 151289856
+    → text + length parts.text ≤ end_address → behind ≤ end_address → (if section == 1 then text else behind) + symbol.value ≤ end_address
 place_inside parts only symbol zero p text behind t b = let h : ⊥ = (let some = p.0 in omega (arith, some)) in absurd h
 place_inside parts only symbol (suc zero) p text behind t b = let h = p.2 in omega (arith, h, t)
 place_inside parts only symbol (suc (suc zero)) p text behind t b = let h = p.2 in let n = ap (λ (xs : List ℕ). length xs) only.fixed in omega (arith, h, n, b)
@@ -34,8 +35,8 @@ no_place : (section : ℕ) → Undefined ≡ At section → ⊥
 no_place section e = let clash : Undefined ≡ At section = e in cc
 
 symbol_inside : (parts : ObjectParts) → OnlyText parts → All (SymbolFits (section_sizes parts)) parts.symbols → (symbol section : ℕ) → symbol < length parts.symbols + 1
-    → (symbol_of (object_of parts) symbol).place ≡ At section → (text behind : ℕ) → text + length parts.text ≤ 151289856 → behind ≤ 151289856
-    → (if section == 1 then text else behind) + (symbol_of (object_of parts) symbol).value ≤ 151289856
+    → (symbol_of (object_of parts) symbol).place ≡ At section → (text behind : ℕ) → text + length parts.text ≤ end_address → behind ≤ end_address
+    → (if section == 1 then text else behind) + (symbol_of (object_of parts) symbol).value ≤ end_address
 symbol_inside parts only fits zero section l e text behind t b = absurd (no_place section e)
 symbol_inside parts only fits (suc symbol) section l e text behind t b =
     let s = get_or parts.symbols symbol no_symbol in
@@ -44,13 +45,13 @@ symbol_inside parts only fits (suc symbol) section l e text behind t b =
     place_inside parts only s section (subst P e fit.placed) text behind t b
 
 -- the address of a symbol in a section is inside the image
-pub address_inside : (objects : List Object) → AreObjects objects → whole_end objects ≤ 151289856 → (number symbol section : ℕ) → number < length objects → symbol < length (object_at objects number).symbols
-    → (symbol_at objects number symbol).place ≡ At section → section_address objects number section + (symbol_at objects number symbol).value ≤ 151289856
+pub address_inside : (objects : List Object) → AreObjects objects → whole_end objects ≤ end_address → (number symbol section : ℕ) → number < length objects → symbol < length (object_at objects number).symbols
+    → (symbol_at objects number symbol).place ≡ At section → section_address objects number section + (symbol_at objects number symbol).value ≤ end_address
 address_inside objects are inside number symbol section l s e =
     let i = object_read objects are number l in
     let n = near objects are inside number l in
     let size = text_size (object_at objects number) i ∙ ap (λ (o : Object). length (text_of o).bytes) i.is in
-    let P : Object → Type 0 = λ o. symbol < length o.symbols → (symbol_of o symbol).place ≡ At section → section_address objects number section + (symbol_of o symbol).value ≤ 151289856 in
+    let P : Object → Type 0 = λ o. symbol < length o.symbols → (symbol_of o symbol).place ≡ At section → section_address objects number section + (symbol_of o symbol).value ≤ end_address in
     let to = n.to in
     subst P (sym i.is)
     (λ t p. symbol_inside i.parts i.only_text i.well_formed.symbols symbol section (omega (arith, t)) p (text_address objects number) (whole_end objects) (omega (arith, to, size)) inside)

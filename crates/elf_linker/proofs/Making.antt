@@ -3,9 +3,10 @@ use Rattle.std.proofs.Common.{◌≡◌, ℕ, ◌+◌, ◌-◌, ◌<◌, ◌≤�
 use Rattle.std.specs.Prelude.{nat_lt}
 use Rattle.std.proofs.lemmas.List.{get_or_append_left, get_or-append_right, get_or-replicate, length-replicate}
 use Rattle.std.proofs.lemmas.Bool.{ltb-true, ltb-false}
+use Rattle.elf_file.specs.Image.{first_address}
 use Rattle.elf_file.specs.Object.{Object, reloc_of}
 use Rattle.elf_file.specs.declared.parts.RelocPart.{RelocPart}
-use Rattle.elf_linker.specs.Placement.{first_address, text_of, text_address}
+use Rattle.elf_linker.specs.Placement.{text_of, text_address}
 use Rattle.elf_linker.specs.Linked.{object_at, offset, IsRelocated, IsPlaced}
 use Rattle.elf_linker.specs.LinkSteps.{FitImage, IsCopied, IsGapTo, IsMade}
 use Rattle.elf_linker.proofs.Placing.{object_read, text_size, ends_before, ends_inside, stands}

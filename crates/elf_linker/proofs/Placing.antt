@@ -4,9 +4,10 @@ use Rattle.std.specs.Prelude.{Bool, true, false, nat_lt}
 use Rattle.std.proofs.lemmas.List.{take_more, take_all, get_or_append_left}
 use Rattle.std.proofs.Math.Seq.{get_or-append_seam}
 use Rattle.std.proofs.lemmas.Bool.{ltb-true, ltb-false}
+use Rattle.elf_file.specs.Image.{first_address, end_address}
 use Rattle.elf_file.specs.Object.{Object, section_of, HasBytes}
 use Rattle.elf_file.specs.Read.{IsObject}
-use Rattle.elf_linker.specs.Placement.{first_address, aligned, text_of, begin_from, end_from, text_from, text_address, texts_end_from, texts_end, whole_end}
+use Rattle.elf_linker.specs.Placement.{aligned, text_of, begin_from, end_from, text_from, text_address, texts_end_from, texts_end, whole_end}
 use Rattle.elf_linker.specs.Linked.{object_at}
 use Rattle.elf_linker.specs.LinkSteps.{AreObjects}
 
@@ -96,11 +97,11 @@ whole_is objects = (omega arith, omega arith)
 -- where all sections are inside, so is each text
 pub record IsNear (objects : List Object) (number : ℕ) : Type 0 where
   pub first : first_address ≤ ends_at objects number
-  pub ends : ends_at objects number ≤ 151289856
-  pub begins : text_address objects number ≤ 151289856
-  pub to : text_address objects number + (text_of (object_at objects number)).size ≤ 151289856
+  pub ends : ends_at objects number ≤ end_address
+  pub begins : text_address objects number ≤ end_address
+  pub to : text_address objects number + (text_of (object_at objects number)).size ≤ end_address
 
-pub near : (objects : List Object) → AreObjects objects → whole_end objects ≤ 151289856 → (number : ℕ) → number < length objects → IsNear objects number
+pub near : (objects : List Object) → AreObjects objects → whole_end objects ≤ end_address → (number : ℕ) → number < length objects → IsNear objects number
 near objects are inside number l =
     let a = ends_inside objects are number (omega (arith, l)) in let b = ends_inside objects are (number + 1) (omega (arith, l)) in let a0 = a.0 in let a1 = a.1 in let b1 = b.1 in
     let w = (whole_is objects).0 in let s = stands objects are number l in let t = s.to in

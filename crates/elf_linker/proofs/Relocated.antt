@@ -1,6 +1,7 @@
 -- Relocations inside an object's text.
 use Rattle.std.proofs.Common.{◌≡◌, ℕ, zero, suc, ◌+◌, ◌-◌, ◌<◌, ◌≤◌, List, take, drop, get_or, length, ap, ◌∙◌, sym, refl, subst, arith}
 use Rattle.std.specs.Prelude.{slice_index}
+use Rattle.elf_file.specs.Image.{first_address, end_address}
 use Rattle.elf_file.specs.Object.{Object, reloc_of, symbol_of, no_reloc}
 use Rattle.elf_file.specs.Places.{word_at}
 use Rattle.cc_base.specs.Words.{word_bytes}
@@ -8,7 +9,7 @@ use Rattle.elf_file.specs.Read.{IsObject, OnlyText}
 use Rattle.elf_file.specs.WellFormed.{RelocFits, section_sizes}
 use Rattle.elf_file.specs.declared.parts.ObjectParts.{ObjectParts}
 use Rattle.elf_file.specs.declared.parts.RelocPart.{RelocPart}
-use Rattle.elf_linker.specs.Placement.{first_address, text_of, text_address}
+use Rattle.elf_linker.specs.Placement.{text_of, text_address}
 use Rattle.elf_linker.specs.Linked.{object_at, offset, stored, HasAddress, IsRelocated}
 use Rattle.elf_linker.specs.LinkSteps.{FitImage}
 use Rattle.elf_linker.proofs.Placing.{text_size, object_read, near, stands}
@@ -43,7 +44,7 @@ pub record Reached (objects : List Object) (number : ℕ) (reloc : RelocPart) (t
   pub word : reloc.offset + 4 ≤ length bytes
   pub symbol : reloc.symbol < length (object_at objects number).symbols
   pub from : first_address ≤ text
-  pub to : text + reloc.offset + 4 ≤ 151289856
+  pub to : text + reloc.offset + 4 ≤ end_address
   pub copied : reloc.offset + 4 ≤ (text_of (object_at objects number)).size
 
 pub reached : (objects : List Object) → FitImage objects → (number index : ℕ) → number < length objects → index < length (object_at objects number).relocs → (view : Object) → view ≡ object_at objects number

@@ -6,6 +6,7 @@ use Rattle.std.proofs.Math.Seq.{get_or-append_seam}
 use Rattle.std.proofs.lemmas.Option.{none-some}
 use Rattle.std.proofs.lemmas.List.Elements.{All-append, All-from_recursion}
 use Rattle.cc_base.specs.Faces.{first_answer}
+use Rattle.elf_file.specs.Image.{first_address}
 use Rattle.elf_file.specs.Object.{Object, object_of, symbol_of, no_symbol}
 use Rattle.elf_file.specs.Read.{IsObject}
 use Rattle.elf_file.specs.WellFormed.{SymbolFits, IsPlaced as IsPlacedIn, section_sizes}
@@ -15,7 +16,7 @@ use Rattle.elf_file.specs.declared.parts.RelocPart.{RelocPart}
 use Rattle.elf_file.specs.declared.parts.SymbolPlace.{SymbolPlace}
 use Rattle.elf_file.specs.declared.parts.SymbolPlace.TheVariants.{Undefined, At, Absolute}
 use Rattle.elf_linker.specs.Runtime.{runtime}
-use Rattle.elf_linker.specs.Placement.{first_address, text_of, texts_end}
+use Rattle.elf_linker.specs.Placement.{text_of, texts_end}
 use Rattle.elf_linker.specs.Inputs.{AreInputs}
 use Rattle.elf_linker.specs.Names.{is_use, is_nowhere, is_defined, unresolved}
 use Rattle.elf_linker.specs.Linked.{object_at}

@@ -1,5 +1,6 @@
 -- What the linker keeps while it works: an index of definitions, and how far the code is made.
 use Rattle.std.specs.Prelude.{◌≡◌, ℕ, ◌+◌, ◌<◌, ◌≤◌, Bool, cond, not, ◌&&◌, ◌==◌, nat_lt, List, ◌++◌, ◌⊎◌, length, take, get_or, find, Option, Some, None, All, option_and_then, true}
+use Rattle.elf_file.specs.Image.{first_address, end_address}
 use Rattle.elf_file.specs.declared.parts.SymbolPlace.{SymbolPlace}
 use Rattle.elf_file.specs.declared.parts.SymbolPlace.TheVariants.{Undefined, At, Absolute}
 use Rattle.std.specs.HashMap.{HashMap, get_by}
@@ -8,7 +9,7 @@ use denote.Ref.{Bor}
 use Rattle.elf_file.specs.Object.{Object, symbol_of}
 use Rattle.elf_file.specs.Read.{IsObject}
 use Rattle.elf_file.specs.declared.parts.SymbolPart.{SymbolPart}
-use Rattle.elf_linker.specs.Placement.{first_address, last_end, text_of, text_address, texts_end_from, whole_end}
+use Rattle.elf_linker.specs.Placement.{text_of, text_address, texts_end_from, whole_end}
 use Rattle.elf_file.specs.declared.parts.SymbolKind.{SymbolKind}
 use Rattle.elf_linker.specs.Names.{is_object, is_definition, is_use, defines, all_symbols, is_defined, definition, defined_before, size_differs}
 use Rattle.elf_linker.specs.Linked.{object_at, IsPlaced, offset}
@@ -79,7 +80,7 @@ pub record AreAddresses {S : Type 0} (objects : List Object) (index : HashMap (B
   pub noted : AreNoted objects (all_symbols objects) index
   pub places : AreTexts objects texts
   pub empty : behind ≡ whole_end objects
-  pub inside : whole_end objects ≤ last_end
+  pub inside : whole_end objects ≤ end_address
 
 -- the symbol lies in a section, or it is a name that is defined
 abbrev pub IsAnswered : List Object → SymbolPart → SymbolPlace → Type 0
@@ -108,7 +109,7 @@ pub record HasRuntime (objects : List Object) : Type 0 where
 -- the objects are those of an image, which does not pass the last address
 pub record FitImage (objects : List Object) : Type 0 where
   pub are : AreObjects objects
-  pub inside : whole_end objects ≤ last_end
+  pub inside : whole_end objects ≤ end_address
 
 -- a use that states this size agrees with a symbol of this type and size
 abbrev pub agree : ℕ → SymbolKind → ℕ → Bool

@@ -1,6 +1,7 @@
 -- What each address of an image holds that is linked from objects, the runtime the last of them (Intel386 supplement, chapter 4, relocation).
 use Rattle.std.specs.Prelude.{◌≡◌, ℕ, ◌+◌, ◌-◌, ◌<◌, ◌≤◌, List, [], ◌∷◌, length, take, drop, get_or, false, All, codes, slice_index_or}
 use Rattle.cc_base.specs.Words.{word_bytes, add32, sub32}
+use Rattle.elf_file.specs.Image.{first_address, end_address}
 use Rattle.elf_file.specs.Places.{word_at}
 use Rattle.elf_file.specs.Object.{Object, symbol_of}
 use Rattle.elf_file.specs.declared.parts.RelocPart.{RelocPart}
@@ -10,7 +11,7 @@ use Rattle.elf_file.specs.declared.parts.SymbolPart.{SymbolPart}
 use Rattle.elf_file.specs.declared.parts.SymbolPlace.{SymbolPlace}
 use Rattle.elf_file.specs.declared.parts.SymbolPlace.TheVariants.{Undefined, At, Absolute}
 use Rattle.elf_file.specs.declared.image.ImageParts.{ImageParts}
-use Rattle.elf_linker.specs.Placement.{first_address, last_end, text_of, text_address, texts_end, whole_end, section_address}
+use Rattle.elf_linker.specs.Placement.{text_of, text_address, texts_end, whole_end, section_address}
 
 abbrev pub object_at : List Object → ℕ → Object
 object_at objects number = slice_index_or objects number (record { sections = []; symbols = []; relocs = [] })
@@ -73,6 +74,6 @@ pub record Linked (objects : List Object) (image : ImageParts) : Type 0 where
   pub segments : image.segments ≡ record { start = first_address; flags = 5; size = length code; bytes = code } ∷ []
   pub entry : IsDefinedAt objects (codes "_start") image.entry
   pub ends : first_address + length code ≡ texts_end objects
-  pub inside : whole_end objects ≤ last_end
+  pub inside : whole_end objects ≤ end_address
   pub placed : (number : ℕ) → number < length objects → IsPlaced objects code number
   pub gaps : (address : ℕ) → first_address ≤ address → address < texts_end objects → IsGap objects address → get_or code (offset address) 0 ≡ 0

@@ -6,13 +6,14 @@ use Rattle.std.specs.Option.{option_or}
 use Rattle.std.specs.Prelude.{option_and_then}
 use Rattle.std.specs.Str.{bytes_eq}
 use Rattle.cc_base.specs.Faces.{first_answer}
+use Rattle.elf_file.specs.Image.{end_address}
 use Rattle.elf_file.specs.Object.{Object}
 use Rattle.elf_file.specs.declared.parts.SymbolPart.{SymbolPart}
 use Rattle.elf_file.specs.declared.parts.SymbolKind.{SymbolKind}
 use Rattle.elf_file.specs.declared.parts.SymbolKind.TheVariants as kind
 use Rattle.elf_file.specs.declared.parts.SymbolPlace.{SymbolPlace}
 use Rattle.elf_file.specs.declared.parts.SymbolPlace.TheVariants.{Undefined, At, Absolute}
-use Rattle.elf_linker.specs.Placement.{whole_end, last_end}
+use Rattle.elf_linker.specs.Placement.{whole_end}
 use Rattle.elf_linker.specs.declared.fault.LinkFault.{LinkFault}
 use Rattle.elf_linker.specs.declared.fault.LinkFault.TheVariants.{Doubled, Unresolved, Sized, Range}
 
@@ -78,7 +79,7 @@ sized objects number object =
 
 -- the end of all sections passes the last address of an image
 abbrev pub too_long : List Object → Option LinkFault
-too_long objects = cond (nat_lt last_end (whole_end objects)) (Some (Range (whole_end objects))) None
+too_long objects = cond (nat_lt end_address (whole_end objects)) (Some (Range (whole_end objects))) None
 
 -- What is wrong with these objects. Each check tries the objects and their symbols in order
 abbrev pub link_fault : List Object → Option LinkFault

@@ -1,13 +1,7 @@
 -- Where the sections of objects stand in memory. These objects have text alone.
 use Rattle.std.specs.Prelude.{ℕ, zero, suc, ◌+◌, ◌*◌, ◌/◌, List, [], ◌∷◌, ◌==◌, if◌then◌else◌}
+use Rattle.elf_file.specs.Image.{first_address}
 use Rattle.elf_file.specs.Object.{Object, Section, section_of}
-
--- the first address of text, and the end of all addresses of an image
-abbrev pub first_address : ℕ
-first_address = 0x08049000
-
-abbrev pub last_end : ℕ
-last_end = 0x09048000
 
 -- the first address from this one on that is a multiple of the alignment. An alignment of 0 counts as 1
 abbrev pub aligned : ℕ → ℕ → ℕ

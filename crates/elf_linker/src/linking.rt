@@ -13,12 +13,15 @@ use crate::definitions::{Definitions, definitions};
 use crate::fault::LinkFault;
 use crate::inputs::Inputs;
 use crate::objects::Objects;
-use crate::placement::{FIRST_ADDRESS, LAST_END, text_addresses, whole_end};
+use crate::placement::{text_addresses, whole_end};
 use crate::relocating::code;
 use crate::runtime::runtime_parts;
 use crate::uses::{find_all_uses, measure_all_uses};
 use cc_base::Bytes;
-use elf_file::{ElfFault, ImageParts, SegmentPart, SegmentParts, read_object, write_object};
+use elf_file::{
+    END_ADDRESS, ElfFault, FIRST_ADDRESS, ImageParts, SegmentPart, SegmentParts, read_object,
+    write_object,
+};
 use std::alloc::{AllocError, Global};
 
 /// The rights of text: to read and to execute.
@@ -27,7 +30,7 @@ const TEXT_FLAGS: u32 = 5;
 // The image of this code, which is executed from the entry.
 fn image(alloc: Global, entry: u32, code: Vec<u8>) -> Result<ImageParts, AllocError>
     requires { length code.items < 2 ^ 32 }
-    ensures { IfOk result (λ image. image ≡ record { entry = entry; segments = record { start = 0x08049000; flags = 5; size = length code.items; bytes = code.items } ∷ [] }) }
+    ensures { IfOk result (λ image. image ≡ record { entry = entry; segments = record { start = FIRST_ADDRESS; flags = 5; size = length code.items; bytes = code.items } ∷ [] }) }
 {
     let mut segments = SegmentParts::new(alloc);
     segments.push(SegmentPart {
@@ -49,14 +52,14 @@ fn place(
     requires noted { AreNoted objects.now (all_symbols objects.now) definitions.now }
     requires answered { AreAnswered objects.now }
     requires start { is_defined objects.now (codes "_start") ≡ true }
-    requires some { 0x08049000 < texts_end objects.now }
+    requires some { FIRST_ADDRESS < texts_end objects.now }
     ensures linked { IfOk result (λ image. Linked objects.now image) }
     ensures well_formed { IfOk result (λ image. WellFormedImage image) }
     ensures none { IfOk result (λ _. too_long objects.now ≡ None) }
     ensures fault { IfErr result (λ fault. fault ≢ LinkFault.Memory → too_long objects.now ≡ Some fault) }
 {
     let end = whole_end(objects);
-    if end > LAST_END {
+    if end > END_ADDRESS {
         return Err(LinkFault::Range { end });
     }
     let texts = text_addresses(alloc, objects)?;

@@ -1,16 +1,11 @@
 // Where the sections of objects stand in memory.
 ghost use Rattle.std.specs.Prelude.{◌≡◌, ◌+◌, ◌^◌, ◌<◌, ◌≤◌, length, IfOk, if◌then◌else◌};
-ghost use Rattle.elf_linker.specs.Placement.{aligned, texts_end, whole_end, last_end, section_address};
+ghost use Rattle.elf_linker.specs.Placement.{aligned, texts_end, whole_end, section_address};
 ghost use Rattle.elf_linker.specs.LinkSteps.{AreTexts};
 
 use crate::objects::Objects;
+use elf_file::{END_ADDRESS, FIRST_ADDRESS};
 use std::alloc::{AllocError, Global};
-
-/// The first address of text.
-pub(crate) const FIRST_ADDRESS: u32 = 0x0804_9000;
-
-/// The end of all addresses of an image.
-pub(crate) const LAST_END: u64 = 0x0904_8000;
 
 /// The section of an object that has its text.
 pub(crate) const TEXT: u32 = 1;
@@ -52,7 +47,7 @@ pub(crate) fn whole_end(objects: &Objects<'_>) -> u64
 
 /// The address of each object's text.
 pub(crate) fn text_addresses(alloc: Global, objects: &Objects<'_>) -> Result<Vec<u32>, AllocError>
-    requires { whole_end objects.now ≤ last_end }
+    requires { whole_end objects.now ≤ END_ADDRESS }
     ensures { IfOk result (λ texts. AreTexts objects.now texts.items) }
 {
     let mut texts = Vec::with_capacity(alloc, objects.len() as usize)?;

@@ -8,9 +8,9 @@ ghost use Rattle.elf_linker.specs.Linked.{object_at, IsPlaced, IsRelocated, stor
 ghost use Rattle.elf_linker.specs.LinkSteps.{AreAnswered, FitImage, IsAside, IsCopied, IsMade};
 
 use crate::addresses::Addresses;
-use crate::placement::{FIRST_ADDRESS, TEXT};
+use crate::placement::TEXT;
 use byteorder::{ByteOrder, LittleEndian};
-use elf_file::RelocKind;
+use elf_file::{FIRST_ADDRESS, RelocKind};
 use std::alloc::{AllocError, Global};
 
 // The word that a relocation stores: S + A, or S + A - P.

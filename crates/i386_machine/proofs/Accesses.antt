@@ -7,8 +7,8 @@ use Rattle.cc_base.specs.Words.{join, byte_of}
 use Rattle.i386_machine.specs.declared.memory.Piece.{Piece}
 use Rattle.i386_machine.specs.Pieces.{region_of, HasNone, HasAt, EndsWithin}
 use Rattle.i386_machine.specs.Regions.{fetch, Shape, Region, shape_of, shapes, spans, readable, writable, word_at, held_word_at, byte_at, store_word, store_byte, Disjoint}
-use Rattle.i386_machine.specs.Laws.{spans_facts}
-use Rattle.i386_machine.specs.At.{readable_one, readable_none, writable_none, writable_one, peek_one, peek_word_one, poke_one, poke_word_one, shapes-set, fetch_none, fetch_one}
+use Rattle.i386_machine.specs.laws.Regions.{spans_facts}
+use Rattle.i386_machine.specs.laws.At.{readable_one, readable_none, writable_none, writable_one, peek_one, peek_word_one, poke_one, poke_word_one, shapes-set, fetch_none, fetch_one}
 
 pub region_at : (ps : List Piece) (i : ℕ) (p : Piece) → i < length ps → p ≡ get_or ps i p → slice_get (map region_of ps) i ≡ Some (region_of p)
 region_at ps i p l e =

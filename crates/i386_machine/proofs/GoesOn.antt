@@ -14,21 +14,16 @@ use Rattle.i386_machine.specs.declared.event.RunEnd.{RunEnd}
 use Rattle.i386_machine.specs.declared.event.RunEnd.TheVariants as end
 use Rattle.i386_machine.specs.Machine.{State}
 use Rattle.i386_machine.specs.Step.{Doing, Goes, Asks, Gives, Ends, Sticks, doing, doing_at, Stepped, stepped, step}
-use Rattle.i386_machine.specs.StepLaws.{IsOver}
-use Rattle.i386_machine.specs.Runs.{acts_of, left_after, after, Ran, IsAsked, IsGiven, Runs}
+use Rattle.i386_machine.specs.laws.Steps.{IsOver}
+use Rattle.i386_machine.specs.Runs.{acts_of, left_after, after, Path, Ran, IsAsked, IsGiven, Runs}
 use Rattle.i386_machine.specs.Turns.{Does, Turned, Turns}
+use Rattle.i386_machine.proofs.SomeInput.{taken-append, some_input}
 
 emitted-append : (xs ys : List Act) → emitted (xs ++ ys) ≡ emitted xs ++ emitted ys
 emitted-append [] ys = refl
 emitted-append (act.Took ∷ xs) ys = emitted-append xs ys
 emitted-append (act.AtEnd ∷ xs) ys = emitted-append xs ys
 emitted-append (act.Gave b ∷ xs) ys = ap (λ es. b ∷ es) (emitted-append xs ys)
-
-taken-append : (xs ys : List Act) → taken (xs ++ ys) ≡ taken xs + taken ys
-taken-append [] ys = omega arith
-taken-append (act.Took ∷ xs) ys = omega (arith, taken-append xs ys)
-taken-append (act.AtEnd ∷ xs) ys = taken-append xs ys
-taken-append (act.Gave b ∷ xs) ys = taken-append xs ys
 
 -- what a step leaves of the input is the input without what it took
 left_lacks : (e : Event) (xs : List ℕ) → left_after e xs ≡ drop (taken (acts_of e)) xs
@@ -156,6 +151,18 @@ effects_of m (Gives b) i o m' i' o' is h =
 effects_of m (Ends status) i o m' i' o' is h = quiet m (Ends status) (event.Ended status) i o m' i' o' is refl (λ next. ap (λ (x : State). record { event = event.Ended status; after = x }) (sym h.0)) h.1 h.2
 effects_of m (Sticks cause) i o m' i' o' is h = quiet m (Sticks cause) (event.Stuck cause) i o m' i' o' is refl (λ next. ap (λ (x : State). record { event = event.Stuck cause; after = x }) (sym h.0)) h.1 h.2
 
+-- no step was taken
+pub begins : (m : State) (i : SourceSeen) (o : SinkSeen) → Ran m 0 i o m i o
+begins m i o = record {
+  acts = [];
+  path = (refl, refl);
+  acts_are = λ input told. refl;
+  machine_is = λ input told. refl;
+  some_input = some_input m 0 [] m (refl, refl);
+  output = grown-nil o;
+  input = lacking-none i;
+}
+
 -- one step more
 pub goes_on : (m : State) (n : ℕ) (i : SourceSeen) (o : SinkSeen) (m' : State) (i' : SourceSeen) (o' : SinkSeen) (m'' : State) (i'' : SourceSeen) (o'' : SinkSeen) → Ran m n i o m' i' o' → Turned m' i' o' m'' i'' o'' → Ran m (suc n) i o m'' i'' o''
 goes_on m n i o m' i' o' m'' i'' o'' r t =
@@ -167,9 +174,11 @@ goes_on m n i o m' i' o' m'' i'' o'' r t =
     let left : run.left ≡ rest = after_lacks m input n ∙ ap (λ (a : List Act). drop (taken a) input) (sym (r.acts_are input told)) in
     let tells : i'.told ≡ Some rest = ap (λ (x : SourceSeen). x.told) r.input ∙ ap (option_map (λ xs. drop (taken r.acts) xs)) told in
     ap (λ (x : State). step x (slice_get run.left 0)) (sym (r.machine_is input told)) ∙ ap (λ xs. step m' (slice_get xs 0)) left ∙ sym (e.same rest tells) in
+    let path : Path m (suc n) (r.acts ++ acts_of s.event) m'' = record { acts_before = r.acts; from = m'; next = e.next; led = r.path; acts_are = refl; leads = e.leads } in
     record {
       acts = r.acts ++ acts_of s.event;
-      path = record { acts_before = r.acts; from = m'; next = e.next; led = r.path; acts_are = refl; leads = e.leads };
+      path = path;
+      some_input = some_input m (suc n) (r.acts ++ acts_of s.event) m'' path;
       acts_are = λ input told. ap (λ (a : List Act). a ++ acts_of s.event) (r.acts_are input told) ∙ ap (λ (x : Stepped). (after m input n).acts ++ acts_of x.event) (sym (there input told));
       machine_is = λ input told. e.leads ∙ ap (λ (x : Stepped). x.after) (sym (there input told));
       output = e.output ∙ ap (λ (x : SinkSeen). grown x (emitted (acts_of s.event))) r.output ∙ grown-twice o (emitted r.acts) (emitted (acts_of s.event)) ∙ ap (grown o) (sym (emitted-append r.acts (acts_of s.event)));

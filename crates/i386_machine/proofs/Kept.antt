@@ -11,7 +11,7 @@ use Rattle.i386_machine.specs.declared.memory.Piece.{Piece}
 use Rattle.i386_machine.specs.Known.{IsKnown, AllKnown}
 use Rattle.i386_machine.specs.Pieces.{region_of, HasAt}
 use Rattle.i386_machine.specs.Regions.{fetch, Shape, Region, shape_of, shapes, spans, writable, ApartFrom}
-use Rattle.i386_machine.specs.At.{shapes-set, not_both}
+use Rattle.i386_machine.specs.laws.At.{shapes-set, not_both}
 use Rattle.i386_machine.proofs.Accesses.{region_at}
 
 left_off : (w b c : Bool) → w ≡ true → ((w && b) || c) ≡ false → b ≡ false

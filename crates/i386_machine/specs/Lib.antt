@@ -1,13 +1,10 @@
 pub mod Regions
-pub mod Laws
-pub mod At
 pub mod Known
 pub mod Pieces
 pub mod Machine
 pub mod Operands
 pub mod Step
 pub mod Pending
-pub mod StepLaws
 pub mod Runs
 pub mod Turns
-pub mod RunLaws
+pub mod laws

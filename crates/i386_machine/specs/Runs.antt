@@ -72,13 +72,26 @@ abbrev pub Path : State → ℕ → List Act → State → Type 0
 Path m zero acts m' = (acts ≡ []) × (m' ≡ m)
 Path m (suc n) acts m' = LastStep (Path m n) acts m'
 
--- n steps were taken over this outside: the output has grown by just what was emitted, and the input lacks just what was taken
+-- once the end of the input was found, no byte was taken
+abbrev pub EndsOnce : List Act → Type 0
+EndsOnce acts = (before behind : List Act) → acts ≡ before ++ act.AtEnd ∷ behind → runs.taken behind ≡ 0
+
+-- on some input, n steps lead from m to m' with these acts
+pub record OnSomeInput (m : State) (n : ℕ) (acts : List Act) (m' : State) : Type 0 where
+  pub input : List ℕ
+  pub acts_are : acts ≡ (after m input n).acts
+  pub machine_is : m' ≡ (after m input n).machine
+
+-- n steps were taken over this outside: the output has grown by just what was emitted, and the input lacks just what was taken.
+-- Where the source tells its bytes, the steps are those on these bytes. Where it tells none, they are those on some answers, and
+-- on some input unless the source gave a byte after it had none.
 -- m, i, o: before; m', i', o': after
 pub record Ran (m : State) (n : ℕ) (i : SourceSeen) (o : SinkSeen) (m' : State) (i' : SourceSeen) (o' : SinkSeen) : Type 0 where
   pub acts : List Act
   pub path : Path m n acts m'
   pub acts_are : (input : List ℕ) → i.told ≡ Some input → acts ≡ (after m input n).acts
   pub machine_is : (input : List ℕ) → i.told ≡ Some input → m' ≡ (after m input n).machine
+  pub some_input : EndsOnce acts → OnSomeInput m n acts m'
   pub output : o' ≡ grown o (runs.emitted acts)
   pub input : i' ≡ record i { told = option_map (λ rest. drop (runs.taken acts) rest) i.told }
 

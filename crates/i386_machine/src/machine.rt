@@ -5,7 +5,7 @@ mod operands;
 ghost use Rattle.std.specs.Prelude.{◌≡◌, ◌≢◌, ◌+◌, ◌-◌, ◌%◌, ◌^◌, ◌<◌, ◌≤◌, [], ◌∷◌, ◌++◌, length, true, false, IsTrue, ◌↔◌, IfOk, OnOk, OnErr, OnSome, IfNone, Some, None, option_map};
 ghost use Rattle.i386_machine.specs.Machine.{started, stack_region, filled, register, with_register};
 ghost use Rattle.i386_machine.specs.Pending.{doing_of, Keeps, HasPlace, runs, is_read_call, is_system_call};
-ghost use Rattle.i386_machine.specs.Regions.{shapes, ApartFrom, writable, byte_at};
+ghost use Rattle.i386_machine.specs.Regions.{shapes, ApartFrom, Disjoint, writable, byte_at};
 ghost use Rattle.i386_machine.specs.Turns.{StandsAt};
 ghost use Rattle.i386_machine.specs.Step.{Asks, Gives, Ends, Sticks, doing, effect, system_call, answered, stepped, step};
 
@@ -122,6 +122,13 @@ impl Machine {
         ensures { result ≡ byte_at self.now.regions address }
     {
         self.memory.byte_at(address)
+    }
+
+    /// A law of every machine: no address is in two of its regions. It does nothing.
+    pub fn has_regions_apart(&self)
+        ensures { Disjoint (shapes self.now.regions) }
+    {
+        self.memory.has_regions_apart();
     }
 
     /// Whether the next instruction is a read call that has a step.

@@ -164,6 +164,13 @@ impl Memory {
         Ok(())
     }
 
+    /// A law of every memory: no address is in two of its regions. It does nothing.
+    pub(crate) fn has_regions_apart(&self)
+        ensures { Disjoint (shapes self.now) }
+    {
+        let _ = &self.last_data;
+    }
+
     /// The same as `load_byte`, where the machine is only looked at.
     pub(crate) fn byte_at(&self, at: u32) -> Option<u8>
         ensures { result ≡ byte_at self.now at }

@@ -1,4 +1,6 @@
 // Runs of the machine over a source and a sink.
+ghost use Rattle.std.specs.Prelude.{◌≡◌};
+ghost use Rattle.i386_machine.specs.Regions.{shapes};
 ghost use Rattle.i386_machine.specs.Runs.{Runs};
 ghost use Rattle.i386_machine.specs.Turns.{Turns};
 
@@ -47,14 +49,17 @@ fn turn<S: Source, O: Sink>(
 
 /// Runs a machine for so many steps at most. A byte that was emitted is given to the sink before the next step. Read
 /// and Write come only where the source or the sink failed, and Memory only where the sink wanted memory: then the
-/// machine is as it was before that step.
+/// machine is as it was before that step. Over a source that tells its bytes the steps are those on these bytes, and over
+/// another those on some input, unless it gave a byte after it had none.
 pub fn run<S: Source, O: Sink>(
     machine: &mut Machine,
     steps: u32,
     input: &mut S,
     output: &mut O,
 ) -> RunEnd
-    ensures { Runs machine.old steps (S.seen input.old) (O.seen output.old) result machine.new (S.seen input.new) (O.seen output.new) }
+    ensures runs { Runs machine.old steps (S.seen input.old) (O.seen output.old) result machine.new (S.seen input.new) (O.seen output.new) }
+    // Regions keep their places, lengths and rights.
+    ensures shape { shapes machine.new.regions ≡ shapes machine.old.regions }
 {
     for count in 0..steps {
         if let Err(end) = turn(machine, input, output) {

@@ -1,7 +1,7 @@
 // Whole programs of one or several units: their ends, what they emit, and what is wrong with their names.
 use crate::running::{come_to, sink, source};
 use cc_base::{Bytes, Calls, MemSink, MemSource};
-use clight_mean::{MeanEnd, MeanFault};
+use mean_source::{MeanEnd, MeanFault};
 use std::alloc::{AllocError, Global};
 use std::test::Fail;
 

@@ -1,12 +1,12 @@
 // Texts that are parsed, checked, linked and run.
 use cc_base::{Bytes, Calls, MemSink, MemSource};
-use clight_mean::{MeanEnd, MeanFault, mean};
-use clight_parser::parse;
-use clight_typing::check;
-use clight_unit::Unit;
+use clight_unit::ClightUnit;
+use mean_source::{MeanEnd, MeanFault, mean};
 use std::alloc::{AllocError, Global};
+use text_parser::parse;
+use typing_units::check;
 
-fn unit(alloc: Global, text: &str) -> Result<Unit, AllocError> {
+fn unit(alloc: Global, text: &str) -> Result<ClightUnit, AllocError> {
     let Ok(tree) = parse(alloc, text.as_bytes()) else {
         return Err(AllocError);
     };

@@ -1,6 +1,6 @@
 // Each kind of turn, by programs whose turns are counted by hand.
 use crate::running::{come_to, sink, source};
-use clight_mean::MeanEnd;
+use mean_source::MeanEnd;
 use std::alloc::{AllocError, Global};
 
 // What a program of one text without input comes to.

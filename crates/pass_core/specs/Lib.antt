@@ -1,4 +1,9 @@
+pub mod Alike
+pub mod Inputs
+pub mod Lists
+pub mod Meets
 pub mod Refines
 pub mod Rooms
 pub mod Semantics
-pub mod Simulation
+pub mod Turns
+pub mod laws

@@ -13,9 +13,9 @@ use Rattle.i386_machine.specs.Step.{Goes, Ends, doing}
 use Rattle.i386_machine.specs.Runs.{Run}
 use Rattle.pass_core.specs.Semantics.{iterate}
 use Rattle.second_code.specs.Code.{call_code}
-use Rattle.machine_steps.specs.StackAndCode.{stack_word, with_word, Whole, InStack, Here, skip}
-use Rattle.machine_steps.specs.Spellings.{load_eax, eax_to_ebx, call_by, return_from, interrupt}
-use Rattle.machine_steps.specs.Hops.{hop, hop-goes, hop-ends, one_more, run_of, words, machine_at, doing-here, calls, reads}
+use Rattle.i386_steps.specs.laws.StackAndCode.{stack_word, with_word, Whole, InStack, Here, skip}
+use Rattle.i386_steps.specs.laws.Spellings.{load_eax, eax_to_ebx, call_by, return_from, interrupt}
+use Rattle.i386_steps.specs.laws.Hops.{hop, hop-goes, hop-ends, one_more, run_of, words, machine_at, doing-here, calls, reads}
 use Rattle.second_code.proofs.PutSteps.{lands, distance_small}
 
 some : (x : ℕ) (xs : List ℕ) → 0 < length (x ∷ xs)

@@ -17,7 +17,7 @@ use Rattle.second_form.specs.declared.second_items.Item.{Item}
 use Rattle.second_form.specs.SecondForm.{reserved_words, IsItem, IsBodyIfAny, CallsName}
 use Rattle.second_form.specs.SecondFaults.{is_call_of, has_call_of, is_shown, is_wanted, shown_names, wanted_names, SourceFault, Doubled, Unresolved, fault_or, doubled_or, unresolved, Linkable}
 use Rattle.cc_base.specs.declared.run.Outcome.TheVariants.{Wrong}
-use Rattle.second_form.specs.SecondLinks.{never_wrong}
+use Rattle.second_form.specs.laws.Links.{never_wrong}
 use Rattle.second_form.specs.SecondRun.{own, shown, second_after}
 use Rattle.elf_file.specs.Object.{Object, object_of, no_symbol}
 use Rattle.elf_file.specs.declared.parts.SymbolPart.{SymbolPart}

@@ -13,7 +13,7 @@ use Rattle.elf_linker.specs.Placement.{text_address}
 use Rattle.elf_linker.specs.Linked.{Linked, IsDefinedAt, Covers, object_at}
 use Rattle.elf_linker.specs.Names.{link_fault}
 use Rattle.elf_linker.specs.Runtime.{start_text, getbyte_text, putbyte_text, runtime_text, runtime}
-use Rattle.machine_steps.specs.StackAndCode.{Here}
+use Rattle.i386_steps.specs.laws.StackAndCode.{Here}
 use Rattle.second_code.specs.LinkedObjects.{linked_objects}
 use Rattle.second_code.specs.Code.{putbyte_code, start_code, call_code}
 use Rattle.second_code.specs.Parts.{Use}

@@ -14,8 +14,8 @@ use Rattle.cc_base.specs.Words.{add32}
 use Rattle.i386_machine.specs.Runs.{seen_of}
 use Rattle.i386_machine.specs.Runs.{after as machine_after}
 use Rattle.pass_core.specs.Refines.{Refines}
-use Rattle.machine_steps.specs.StackAndCode.{Here, Whole, skip}
-use Rattle.machine_steps.specs.Hops.{machine_at, words}
+use Rattle.i386_steps.specs.laws.StackAndCode.{Here, Whole, skip}
+use Rattle.i386_steps.specs.laws.Hops.{machine_at, words}
 use Rattle.second_code.proofs.CallSteps.{exit_code}
 use Rattle.second_code.specs.Code.{Places, body_code, call_code}
 use Rattle.second_code.specs.LinkedUnits.{unit_at, IsAddressOf, LinkedUnits}

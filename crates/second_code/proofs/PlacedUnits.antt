@@ -8,12 +8,13 @@ use Rattle.std.proofs.lemmas.List.Elements.{All-map}
 use Rattle.cc_base.specs.Words.{word_bytes, add32, sub32}
 use Rattle.second_form.specs.declared.second_items.Item.{Item}
 use Rattle.second_form.specs.SecondForm.{IsItem}
+use Rattle.elf_file.specs.Image.{first_address}
 use Rattle.elf_file.specs.Places.{word_at}
 use Rattle.elf_file.specs.Object.{Object, object_of, symbol_of, no_symbol}
 use Rattle.elf_file.specs.declared.parts.RelocPart.{RelocPart}
 use Rattle.elf_file.specs.declared.parts.SymbolPart.{SymbolPart}
 use Rattle.elf_file.specs.declared.image.ImageParts.{ImageParts}
-use Rattle.elf_linker.specs.Placement.{first_address, text_of, text_address, texts_end, whole_end}
+use Rattle.elf_linker.specs.Placement.{text_of, text_address, texts_end, whole_end}
 use Rattle.elf_linker.specs.Linked.{Linked, IsPlaced, HasAddress, stored, offset, Covers, object_at}
 use Rattle.elf_linker.specs.Linked.{IsRelocated as IsWordOf}
 use Rattle.elf_linker.specs.Names.{link_fault}

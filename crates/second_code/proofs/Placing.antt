@@ -12,7 +12,7 @@ use Rattle.second_form.specs.declared.second_items.SmallStmt.{SmallStmt}
 use Rattle.second_form.specs.declared.second_items.SmallStmt.TheVariants.{Put, Call, Return}
 use Rattle.second_form.specs.declared.second_items.Item.{Item}
 use Rattle.second_form.specs.SecondRun.{own, body_or}
-use Rattle.machine_steps.specs.StackAndCode.{Here}
+use Rattle.i386_steps.specs.laws.StackAndCode.{Here}
 use Rattle.second_code.specs.Code.{Places, statement_size, statement_code, body_code, call_code}
 use Rattle.second_code.specs.Parts.{Use, open_call, open_statement, open_body, body_size, body_of, text_of, uses_from, unit_uses_from, definition_or, definition_from}
 use Rattle.second_code.specs.declared.definitions.Definition.{Definition}

@@ -11,9 +11,9 @@ use Rattle.i386_machine.specs.Step.{Goes, Gives, doing, write_call}
 use Rattle.i386_machine.specs.Runs.{Run}
 use Rattle.pass_core.specs.Semantics.{iterate}
 use Rattle.second_code.specs.Code.{call_code, putbyte_code}
-use Rattle.machine_steps.specs.StackAndCode.{stack_word, stack_word-other, byte-other, with_word, with_word-whole, Whole, InStack, byte_at-stack, low_byte-with_word, stack_word-same, Here, skip}
-use Rattle.machine_steps.specs.Spellings.{load_eax, load_edx, load_ebx, lea_ecx, push_eax, push_ebx, pop_eax, pop_ebx, call_by, return_from, interrupt}
-use Rattle.machine_steps.specs.Hops.{hop, hop-goes, hop-gives, one_more, run_of, words, machine_at, doing-here, pushes, calls, reads}
+use Rattle.i386_steps.specs.laws.StackAndCode.{stack_word, stack_word-other, byte-other, with_word, with_word-whole, Whole, InStack, byte_at-stack, low_byte-with_word, stack_word-same, Here, skip}
+use Rattle.i386_steps.specs.laws.Spellings.{load_eax, load_edx, load_ebx, lea_ecx, push_eax, push_ebx, pop_eax, pop_ebx, call_by, return_from, interrupt}
+use Rattle.i386_steps.specs.laws.Hops.{hop, hop-goes, hop-gives, one_more, run_of, words, machine_at, doing-here, pushes, calls, reads}
 
 some : (x : ℕ) (xs : List ℕ) → 0 < length (x ∷ xs)
 some x xs = omega arith

@@ -18,13 +18,14 @@ use Rattle.i386_machine.specs.Runs.{after as machine_after}
 use Rattle.pass_core.specs.Refines.{Refines}
 use Rattle.pass_core.specs.Semantics.{Semantics, Steady, iterate, Met, Simulates}
 use Rattle.pass_core.specs.Semantics as semantics
-use Rattle.pass_core.specs.Simulation.{simulation_from, IsPrefix-refl, iterate-add, iterate-step}
+use Rattle.pass_core.specs.laws.Refines.{IsPrefix-refl}
+use Rattle.pass_core.specs.laws.Simulation.{simulation_from, iterate-add, iterate-step}
 use Rattle.second_code.specs.Code.{Places, statement_size, statement_code, body_code, call_code, putbyte_code}
-use Rattle.machine_steps.specs.StackAndCode.{stack_word, stack_word-other, stack_word-same, with_word, with_word-whole, Whole, InStack, Here, skip}
-use Rattle.machine_steps.specs.Hops.{hop, run_of, words, machine_at}
+use Rattle.i386_steps.specs.laws.StackAndCode.{stack_word, stack_word-other, stack_word-same, with_word, with_word-whole, Whole, InStack, Here, skip}
+use Rattle.i386_steps.specs.laws.Hops.{hop, run_of, words, machine_at}
 use Rattle.second_code.proofs.PutSteps.{put, Room}
 use Rattle.second_code.proofs.CallSteps.{call, return, exit, exit_code}
-use Rattle.machine_steps.specs.ImageSemantics.{image_semantics, image_steady, after-iterate}
+use Rattle.i386_steps.specs.laws.ImageSemantics.{image_semantics, image_steady, after-iterate}
 
 -- a turn takes twelve instructions at most
 abbrev pub turn_price : second.Run → ℕ

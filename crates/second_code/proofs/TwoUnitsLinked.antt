@@ -5,10 +5,11 @@ use Rattle.std.proofs.Common.{arith, ◌∙◌, ap, refl, subst, inl, inr}
 use Rattle.std.proofs.lemmas.Bool.{eqb-true, leb-true, ltb-true}
 use Rattle.std.proofs.lemmas.Bool.Decides.{eqb_tells}
 use Rattle.std.proofs.lemmas.List.Elements.{All-cons, All-head, All-tail}
+use Rattle.elf_file.specs.Image.{first_address, end_address}
 use Rattle.elf_file.specs.Object.{Object}
 use Rattle.elf_file.specs.declared.parts.RelocPart.{RelocPart}
 use Rattle.elf_file.specs.declared.parts.RelocKind.TheVariants.{Rel}
-use Rattle.elf_linker.specs.Placement.{first_address, last_end, text_of, text_address, texts_end}
+use Rattle.elf_linker.specs.Placement.{text_of, text_address, texts_end}
 use Rattle.elf_linker.specs.Linked.{Linked, IsPlaced, IsRelocated, IsDefinedAt, IsGap, Covers, offset, object_at}
 use Rattle.elf_linker.specs.Names.{link_fault}
 use Rattle.second_code.specs.LinkedObjects.{linked_objects}
@@ -129,7 +130,7 @@ two_units_linked = record {
   segments = refl;
   entry = start_is;
   ends = refl;
-  inside = (let h : 0x0804a000 ≤ last_end = omega arith in h);
+  inside = (let h : 0x0804a000 ≤ end_address = omega arith in h);
   placed = placed;
   gaps = gaps;
 }

@@ -17,10 +17,10 @@ use Rattle.elf_linker.specs.Names.{link_fault}
 use Rattle.i386_machine.specs.Machine.{State, started, stack_region}
 use Rattle.i386_machine.specs.Regions.{zeros, length-zeros}
 use Rattle.i386_machine.specs.Runs.{seen_of, after}
-use Rattle.image_loader.specs.Load.{loaded, region_of, stack_size, image_after}
+use Rattle.elf_loader.specs.Load.{loaded, region_of, stack_size, image_after}
 use Rattle.pass_core.specs.Refines.{Refines}
-use Rattle.machine_steps.specs.Hops.{machine_at, words}
-use Rattle.machine_steps.specs.StackAndCode.{Here}
+use Rattle.i386_steps.specs.laws.Hops.{machine_at, words}
+use Rattle.i386_steps.specs.laws.StackAndCode.{Here}
 use Rattle.second_code.specs.Code.{Places, putbyte_code}
 use Rattle.second_code.specs.LinkedObjects.{IsUnit, unit_object, linked_objects}
 use Rattle.second_code.specs.LinkedUnits.{unit_at, IsAddressOf, LinkedUnits}

@@ -8,9 +8,9 @@ use Rattle.elf_file.specs.declared.image.ImageParts.{ImageParts}
 use Rattle.elf_linker.specs.Placement.{texts_end, whole_end}
 use Rattle.elf_linker.specs.Linked.{Linked}
 use Rattle.elf_linker.specs.Names.{link_fault}
-use Rattle.image_loader.specs.Load.{load_fault}
-use Rattle.image_loader.specs.declared.fault.LoadFault.{LoadFault}
-use Rattle.image_loader.specs.declared.fault.LoadFault.TheVariants.{Segment, Entry}
+use Rattle.elf_loader.specs.Load.{load_fault}
+use Rattle.elf_loader.specs.declared.fault.LoadFault.{LoadFault}
+use Rattle.elf_loader.specs.declared.fault.LoadFault.TheVariants.{Segment, Entry}
 use Rattle.second_code.specs.LinkedObjects.{IsUnit, linked_objects}
 use Rattle.second_code.proofs.PlacedUnits.{origin_of}
 use Rattle.second_code.proofs.TextPlaces.{aligned_from}

@@ -1,6 +1,6 @@
 -- The objects that units of the second form are linked from.
 use Rattle.std.specs.Prelude.{List, map}
-use Rattle.clight_text.specs.declared.tree.External.{External}
+use Rattle.text_grammar.specs.declared.tree.External.{External}
 use Rattle.second_form.specs.declared.second_items.Item.{Item}
 use Rattle.second_form.specs.SecondForm.{IsSecondForm}
 use Rattle.elf_file.specs.Object.{Object, object_of}

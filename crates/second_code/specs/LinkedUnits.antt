@@ -2,7 +2,7 @@
 use Rattle.std.specs.Prelude.{◌≡◌, ℕ, ◌+◌, ◌<◌, ◌^◌, List, [], ◌++◌, length, slice_index_or, Some, codes}
 use Rattle.second_form.specs.declared.second_items.Item.{Item}
 use Rattle.second_form.specs.SecondRun.{Meaning, means, main_of}
-use Rattle.machine_steps.specs.StackAndCode.{Here}
+use Rattle.i386_steps.specs.laws.StackAndCode.{Here}
 use Rattle.second_code.specs.Code.{Places, putbyte_code, start_code}
 use Rattle.second_code.specs.Parts.{definition_from}
 use Rattle.second_code.specs.declared.definitions.Definition.{Definition}

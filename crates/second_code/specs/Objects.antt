@@ -1,6 +1,6 @@
 -- The object of a tree of the second form.
 use Rattle.std.specs.Prelude.{ℕ, ◌^◌, ◌<◌, List, length}
-use Rattle.clight_text.specs.declared.tree.External.{External}
+use Rattle.text_grammar.specs.declared.tree.External.{External}
 use Rattle.second_form.specs.declared.second_items.Item.{Item}
 use Rattle.second_form.specs.SecondForm.{IsSecondForm}
 use Rattle.elf_file.specs.Layout.{file_length}

@@ -6,10 +6,10 @@ ghost use Rattle.second_code.specs.Objects.{IsObjectOf};
 
 use crate::parts::object_parts;
 use crate::weights::is_light;
-use clight_text::Tree;
 use elf_file::write_object;
 use second_form::second_form;
 use std::alloc::{AllocError, Global};
+use text_grammar::Tree;
 
 /// Compiles a tree of the second form: the file of its object, an ELF relocatable file for i386. It is `None` exactly where the
 /// tree is not of the form. No other unit has a part in it. The time is linear in the tree, but for the look-ups of names. The only

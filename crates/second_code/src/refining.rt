@@ -7,7 +7,7 @@ ghost use Rattle.second_form.specs.SecondRun.{second_after};
 ghost use Rattle.elf_file.specs.declared.image.ImageParts.{ImageParts};
 ghost use Rattle.elf_linker.specs.Linked.{Linked};
 ghost use Rattle.elf_linker.specs.Names.{link_fault};
-ghost use Rattle.image_loader.specs.Load.{image_after, load_fault};
+ghost use Rattle.elf_loader.specs.Load.{image_after, load_fault};
 ghost use Rattle.pass_core.specs.Refines.{Refines};
 ghost use Rattle.second_code.specs.FoundFaults.{IsFoundAs};
 ghost use Rattle.second_code.specs.LinkedObjects.{IsUnit, linked_objects};

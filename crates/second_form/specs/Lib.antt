@@ -2,5 +2,4 @@ pub mod SecondForm
 pub mod SecondRun
 pub mod SecondNames
 pub mod SecondFaults
-pub mod SecondLaws
-pub mod SecondLinks
+pub mod laws

@@ -2,20 +2,20 @@
 use Rattle.std.specs.Prelude.{◌≡◌, ◌≤◌, ◌⊎◌, ℕ, Bool, true, false, not, cond, ◌==◌, ◌&&◌, List, [], ◌∷◌, All, Contains, slice_get, codes, Option, Some, None, IsSome}
 use Rattle.std.specs.Option.{option_map, option_and_then}
 use Rattle.std.specs.Str.{bytes_eq}
-use Rattle.clight_text.specs.declared.tree.Linkage.{Linkage}
-use Rattle.clight_text.specs.declared.tree.Linkage.TheVariants as linkage
-use Rattle.clight_text.specs.declared.tree.BaseKind.{BaseKind}
-use Rattle.clight_text.specs.declared.tree.BaseKind.TheVariants as base
-use Rattle.clight_text.specs.declared.tree.Parameter.{Parameter}
-use Rattle.clight_text.specs.declared.tree.Head.{Head}
-use Rattle.clight_text.specs.declared.tree.Expr.{Expr}
-use Rattle.clight_text.specs.declared.tree.Expr.TheVariants as expr
-use Rattle.clight_text.specs.declared.tree.Call.{Call as CallTree}
-use Rattle.clight_text.specs.declared.tree.Simple.TheVariants as simple
-use Rattle.clight_text.specs.declared.tree.Stmt.{Stmt}
-use Rattle.clight_text.specs.declared.tree.Stmt.TheVariants as stmt
-use Rattle.clight_text.specs.declared.tree.External.{External}
-use Rattle.clight_text.specs.declared.tree.External.TheVariants as top
+use Rattle.text_grammar.specs.declared.tree.Linkage.{Linkage}
+use Rattle.text_grammar.specs.declared.tree.Linkage.TheVariants as linkage
+use Rattle.text_grammar.specs.declared.tree.BaseKind.{BaseKind}
+use Rattle.text_grammar.specs.declared.tree.BaseKind.TheVariants as base
+use Rattle.text_grammar.specs.declared.tree.Parameter.{Parameter}
+use Rattle.text_grammar.specs.declared.tree.Head.{Head}
+use Rattle.text_grammar.specs.declared.tree.Expr.{Expr}
+use Rattle.text_grammar.specs.declared.tree.Expr.TheVariants as expr
+use Rattle.text_grammar.specs.declared.tree.Call.{Call as CallTree}
+use Rattle.text_grammar.specs.declared.tree.Simple.TheVariants as simple
+use Rattle.text_grammar.specs.declared.tree.Stmt.{Stmt}
+use Rattle.text_grammar.specs.declared.tree.Stmt.TheVariants as stmt
+use Rattle.text_grammar.specs.declared.tree.External.{External}
+use Rattle.text_grammar.specs.declared.tree.External.TheVariants as top
 use Rattle.second_form.specs.declared.second_items.SmallStmt.{SmallStmt}
 use Rattle.second_form.specs.declared.second_items.SmallStmt.TheVariants.{Put, Call, Return}
 use Rattle.second_form.specs.declared.second_items.Item.{Item}

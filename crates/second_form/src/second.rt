@@ -7,8 +7,8 @@ use crate::second_items::SecondForm;
 use crate::second_names::keep_names;
 use crate::second_rules::are_items;
 use crate::second_tree::items_of;
-use clight_text::Tree;
 use std::alloc::{AllocError, Global};
+use text_grammar::Tree;
 
 /// Reads a tree of the second form: functions that emit bytes, call one another and return. It is `None` exactly where the
 /// tree is not of that form. The time is linear in the tree, but for the look-ups of names. The only error is want of memory.

@@ -6,8 +6,8 @@ ghost use Rattle.second_form.specs.SecondForm.{all_of, number_of, put_of, call_o
 
 use crate::second_items::{Item, SecondForm, SmallStmt, SmallStmts};
 use cc_base::Name;
-use clight_text::{BaseKind, Call, Expr, External, Head, Linkage, Simple, Stmt};
 use std::alloc::{AllocError, Global};
+use text_grammar::{BaseKind, Call, Expr, External, Head, Linkage, Simple, Stmt};
 
 // A number that is an `int`.
 fn number_of(tree: &Expr) -> Option<u32>

@@ -1,4 +1,2 @@
 pub mod Mirrors
-pub mod Found
-pub mod Callees
-pub mod Runs
+pub mod laws

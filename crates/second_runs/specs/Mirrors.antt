@@ -1,7 +1,7 @@
 -- Typed units that say what items of the second form say.
 use Rattle.std.specs.Prelude.{◌≡◌, ℕ, Bool, List, [], ◌∷◌, All, Contains, slice_get, codes, Option, Some, None}
 use Rattle.block_mem.specs.declared.operator.Op.TheVariants.{Keep}
-use Rattle.clight_unit.specs.declared.unit.Unit.{Unit as TypedUnit}
+use Rattle.clight_unit.specs.declared.unit.ClightUnit.{ClightUnit as TypedUnit}
 use Rattle.clight_unit.specs.declared.function.Function.{Function}
 use Rattle.clight_unit.specs.declared.signature.Callee.TheVariants as callee
 use Rattle.clight_unit.specs.declared.signature.Signature.{Signature}

@@ -1,4 +1,1 @@
-pub mod Typed
-pub mod Scopes
-pub mod Walked
-pub mod Laws
+pub mod laws

@@ -1,5 +1,3 @@
 pub mod Sources
 pub mod Shapes
-pub mod Sighted
-pub mod ItemSights
-pub mod Symbols
+pub mod laws

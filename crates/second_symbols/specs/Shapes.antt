@@ -4,12 +4,12 @@ use Rattle.std.specs.Prelude.{codes}
 use Rattle.std.specs.Option.{option_map}
 use Rattle.std.specs.Str.{bytes_eq}
 use Rattle.std.proofs.lemmas.Slice.Eq.{bytes_eq-Decides}
-use Rattle.clight_text.specs.declared.tree.Expr.{Expr}
-use Rattle.clight_text.specs.declared.tree.Expr.TheVariants as expr
-use Rattle.clight_text.specs.declared.tree.Call.{Call as CallTree}
-use Rattle.clight_text.specs.declared.tree.Simple.TheVariants as simple
-use Rattle.clight_text.specs.declared.tree.Stmt.{Stmt}
-use Rattle.clight_text.specs.declared.tree.Stmt.TheVariants as stmt
+use Rattle.text_grammar.specs.declared.tree.Expr.{Expr}
+use Rattle.text_grammar.specs.declared.tree.Expr.TheVariants as expr
+use Rattle.text_grammar.specs.declared.tree.Call.{Call as CallTree}
+use Rattle.text_grammar.specs.declared.tree.Simple.TheVariants as simple
+use Rattle.text_grammar.specs.declared.tree.Stmt.{Stmt}
+use Rattle.text_grammar.specs.declared.tree.Stmt.TheVariants as stmt
 use Rattle.second_form.specs.declared.second_items.SmallStmt.{SmallStmt}
 use Rattle.second_form.specs.declared.second_items.SmallStmt.TheVariants.{Put, Call, Return}
 use Rattle.second_form.specs.SecondForm.{number_of, put_of, call_of, called_of, statement_of}

@@ -3,18 +3,18 @@ use Rattle.std.proofs.Common.{◌≡◌, ℕ, suc, Bool, true, false, not, ◌&&
 use Rattle.std.specs.Prelude.{option_map, ◌==◌}
 use Rattle.std.specs.Option.{option_and_then}
 use Rattle.std.proofs.lemmas.Bool.{eqb-true}
-use Rattle.clight_text.specs.declared.tree.Linkage.{Linkage}
-use Rattle.clight_text.specs.declared.tree.Linkage.TheVariants as linkage
-use Rattle.clight_text.specs.declared.tree.BaseKind.{BaseKind}
-use Rattle.clight_text.specs.declared.tree.BaseKind.TheVariants as base
-use Rattle.clight_text.specs.declared.tree.Parameter.{Parameter}
-use Rattle.clight_text.specs.declared.tree.Stmt.{Stmt}
-use Rattle.clight_text.specs.declared.tree.Head.{Head}
-use Rattle.clight_text.specs.declared.tree.External.{External}
-use Rattle.clight_text.specs.declared.tree.External.TheVariants as top
-use Rattle.clight_symbols.specs.Sights.{is_static}
-use Rattle.clight_unit.specs.declared.unit.Unit.{Unit as TypedUnit}
-use Rattle.clight_typing.specs.Typing.{Typed}
+use Rattle.text_grammar.specs.declared.tree.Linkage.{Linkage}
+use Rattle.text_grammar.specs.declared.tree.Linkage.TheVariants as linkage
+use Rattle.text_grammar.specs.declared.tree.BaseKind.{BaseKind}
+use Rattle.text_grammar.specs.declared.tree.BaseKind.TheVariants as base
+use Rattle.text_grammar.specs.declared.tree.Parameter.{Parameter}
+use Rattle.text_grammar.specs.declared.tree.Stmt.{Stmt}
+use Rattle.text_grammar.specs.declared.tree.Head.{Head}
+use Rattle.text_grammar.specs.declared.tree.External.{External}
+use Rattle.text_grammar.specs.declared.tree.External.TheVariants as top
+use Rattle.typing_symbols.specs.Sights.{is_static}
+use Rattle.clight_unit.specs.declared.unit.ClightUnit.{ClightUnit as TypedUnit}
+use Rattle.typing_units.specs.Typing.{Typed}
 use Rattle.second_form.specs.declared.second_items.SmallStmt.{SmallStmt}
 use Rattle.second_form.specs.declared.second_items.Item.{Item}
 use Rattle.second_form.specs.SecondForm.{all_of, statement_of, is_int, is_none, is_plain, is_local, item_with, item_of, items_of, IsSecondForm}

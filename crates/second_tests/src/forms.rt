@@ -1,7 +1,7 @@
 // Which trees are of the form, and their items.
-use clight_parser::parse;
 use second_form::{SecondForm, SmallStmt, second_form};
 use std::alloc::{AllocError, Global};
+use text_parser::parse;
 
 // The items of a text, where it is a unit's text of the form.
 pub(crate) fn form_of(alloc: Global, text: &[u8]) -> Result<Option<SecondForm>, AllocError> {

@@ -1,7 +1,7 @@
 // The objects of units.
-use clight_parser::parse;
 use second_code::unit_object;
 use std::alloc::{AllocError, Global};
+use text_parser::parse;
 
 fn object_of(alloc: Global, text: &[u8]) -> Result<Option<Vec<u8>>, AllocError> {
     match parse(alloc, text) {

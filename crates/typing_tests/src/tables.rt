@@ -1,7 +1,7 @@
 // For each rule of the types texts that break it, with the kind and the place that are told, and texts near them that are well typed.
-use clight_parser::parse;
-use clight_typing::{TypeFault, TypeKind, check};
 use std::alloc::{AllocError, Global};
+use text_parser::parse;
+use typing_units::{TypeFault, TypeKind, check};
 
 // What is told of a text: the fault of its types, if there is one.
 fn told(alloc: Global, text: &[u8]) -> Result<Option<(TypeKind, u32)>, AllocError> {
@@ -68,7 +68,7 @@ fn what_is_declared_twice(rt: HostRuntime) -> Result<(), AllocError> {
 
 #[test]
 fn types_that_do_not_fit(rt: HostRuntime) -> Result<(), AllocError> {
-    let table: [(&[u8], u32); 45] = [
+    let table: [(&[u8], u32); 51] = [
         (b"extern int a; extern char a;", 26),
         (b"extern int a; static int a;", 25),
         (b"int f(void); char f(void);", 18),
@@ -129,6 +129,15 @@ fn types_that_do_not_fit(rt: HostRuntime) -> Result<(), AllocError> {
             54,
         ),
         (b"int *p; int main(void) { int a = p; return a; }", 31),
+        (b"void *p; int *q; int main(void) { return q >= p; }", 43),
+        (b"char *p; int *q; int main(void) { return q != p; }", 43),
+        (
+            b"struct s *p; struct t *q; int main(void) { return p == q; }",
+            52,
+        ),
+        (b"int *p; int main(void) { return 1 & p; }", 34),
+        (b"int *p; int main(void) { return 1 >> p; }", 34),
+        (b"int *p; int main(void) { return 1 - p; }", 34),
     ];
     for (text, at) in table {
         assert_eq!(rt; told(rt.alloc(), text)?, Some((TypeKind::Kind, at)));
@@ -197,7 +206,7 @@ fn shapes_of_main(rt: HostRuntime) -> Result<(), AllocError> {
 
 #[test]
 fn initialisers_that_do_not_fit(rt: HostRuntime) -> Result<(), AllocError> {
-    let table: [(&[u8], u32); 14] = [
+    let table: [(&[u8], u32); 19] = [
         (b"int a; int b = a;", 15),
         (b"int a = -(1 / 0);", 8),
         (b"int a[2] = {1, 2, 3};", 18),
@@ -212,6 +221,11 @@ fn initialisers_that_do_not_fit(rt: HostRuntime) -> Result<(), AllocError> {
         (b"int m[2][2]; int *p = m[1];", 23),
         (b"int *p = 0; int *q = p;", 21),
         (b"int a; char *p = &a;", 17),
+        (b"int a = 1 << 32;", 10),
+        (b"int a = 1 && 1 / 0;", 10),
+        (b"int a; int b = 0 && a;", 17),
+        (b"int *p = 1 - 1;", 11),
+        (b"struct s { int m[2]; }; struct s v; int *p = v.m;", 47),
     ];
     for (text, at) in table {
         assert_eq!(rt; told(rt.alloc(), text)?, Some((TypeKind::Initialiser, at)));

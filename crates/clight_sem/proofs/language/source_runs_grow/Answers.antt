@@ -1,4 +1,4 @@
-use Rattle.clight_sem.specs.Laws.{source_grows}
+use Rattle.clight_sem.specs.laws.Growth.{source_grows}
 use Rattle.clight_sem.proofs.language.source_runs_grow.Goals as goal
 
 pub returns : goal.returns

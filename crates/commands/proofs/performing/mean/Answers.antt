@@ -1,5 +1,5 @@
 use Rattle.std.proofs.Common.{List, length, inr, ap, subst, arith}
-use Rattle.clight_unit.specs.declared.unit.Unit.{Unit as TypedUnit}
+use Rattle.clight_unit.specs.declared.unit.ClightUnit.{ClightUnit as TypedUnit}
 use Rattle.command_words.specs.Orders.{texts}
 use Rattle.commands.specs.Doing.{outside}
 use Rattle.commands.specs.Meanings.{MeansBy}

@@ -32,29 +32,29 @@ returns-in-Err-Memory-load g c files = no_memory
 pub returns-in-Ended : goal.returns-in-Ended
 returns-in-Ended g c files =
     let ok = c.in-Ok-load.ensures.ok in let image = c.in-Ok-read_image.image in
-    was_run image c.in-Ok-read_image.ensures.ok ok.1 (answer.Ended c.in-Ended.status) _ (ended image files c.args.steps _ _ _ _ _ _ ok.0 c.in-Ended.status c.in-Ended.ensures)
+    was_run image c.in-Ok-read_image.ensures.ok ok.1 (answer.Ended c.in-Ended.status) _ (ended image files c.args.steps _ _ _ _ _ _ ok.0 c.in-Ended.status c.in-Ended.ensures.runs)
 
 pub returns-in-Spent : goal.returns-in-Spent
 returns-in-Spent g c files =
     let ok = c.in-Ok-load.ensures.ok in let image = c.in-Ok-read_image.image in
-    was_run image c.in-Ok-read_image.ensures.ok ok.1 answer.Spent _ (spent image files c.args.steps _ _ _ _ _ _ ok.0 c.in-Spent.ensures)
+    was_run image c.in-Ok-read_image.ensures.ok ok.1 answer.Spent _ (spent image files c.args.steps _ _ _ _ _ _ ok.0 c.in-Spent.ensures.runs)
 
 pub returns-in-Stuck : goal.returns-in-Stuck
 returns-in-Stuck g c files =
     let ok = c.in-Ok-load.ensures.ok in let image = c.in-Ok-read_image.image in
-    was_run image c.in-Ok-read_image.ensures.ok ok.1 (answer.Stuck c.in-Stuck.eip c.in-Stuck.cause) _ (stuck image files c.args.steps _ _ _ _ _ _ ok.0 c.in-Stuck.eip c.in-Stuck.cause c.in-Stuck.ensures)
+    was_run image c.in-Ok-read_image.ensures.ok ok.1 (answer.Stuck c.in-Stuck.eip c.in-Stuck.cause) _ (stuck image files c.args.steps _ _ _ _ _ _ ok.0 c.in-Stuck.eip c.in-Stuck.cause c.in-Stuck.ensures.runs)
 
 pub returns-in-Read : goal.returns-in-Read
 returns-in-Read g c files =
     let ok = c.in-Ok-load.ensures.ok in let image = c.in-Ok-read_image.image in
-    was_run image c.in-Ok-read_image.ensures.ok ok.1 answer.ReadFault _ (read_failed image files c.args.steps _ _ _ _ _ _ ok.0 c.in-Read.ensures)
+    was_run image c.in-Ok-read_image.ensures.ok ok.1 answer.ReadFault _ (read_failed image files c.args.steps _ _ _ _ _ _ ok.0 c.in-Read.ensures.runs)
 
 pub returns-in-Write : goal.returns-in-Write
 returns-in-Write g c files =
     let ok = c.in-Ok-load.ensures.ok in let image = c.in-Ok-read_image.image in
-    was_run image c.in-Ok-read_image.ensures.ok ok.1 answer.WriteFault _ (write_failed image files c.args.steps _ _ _ _ _ _ ok.0 c.in-Write.ensures)
+    was_run image c.in-Ok-read_image.ensures.ok ok.1 answer.WriteFault _ (write_failed image files c.args.steps _ _ _ _ _ _ ok.0 c.in-Write.ensures.runs)
 
 pub returns : goal.returns
 returns g c files =
     let ok = c.in-Ok-load.ensures.ok in let image = c.in-Ok-read_image.image in
-    was_run image c.in-Ok-read_image.ensures.ok ok.1 answer.Memory _ (wanted image files c.args.steps _ _ _ _ _ _ ok.0 c.in-Memory.ensures)
+    was_run image c.in-Ok-read_image.ensures.ok ok.1 answer.Memory _ (wanted image files c.args.steps _ _ _ _ _ _ ok.0 c.in-Memory.ensures.runs)

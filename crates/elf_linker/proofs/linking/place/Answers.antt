@@ -15,7 +15,7 @@ new-addresses-requires c =
       noted = c.requires.noted;
       places = subst P (sym c.as_slice.ensures.value) c.in_ok-texts.ensures;
       empty = c.whole_end-end.ensures;
-      inside = omega (arith, c.whole_end-end.ensures, c.if-end-gt-LAST_END.false);
+      inside = omega (arith, c.whole_end-end.ensures, c.if-end-gt-END_ADDRESS.false);
     }
 
 pub returns-clause-linked : goal.returns-clause-linked
@@ -31,7 +31,7 @@ returns-clause-linked c =
       segments = ap (λ (i : ImageParts). i.segments) c.in_ok-image.ensures;
       entry = subst E (sym (ap (λ (i : ImageParts). i.entry) c.in_ok-image.ensures)) (subst S c.new-addresses.ensures c.entry.ensures);
       ends = ends;
-      inside = omega (arith, c.whole_end-end.ensures, c.if-end-gt-LAST_END.false);
+      inside = omega (arith, c.whole_end-end.ensures, c.if-end-gt-END_ADDRESS.false);
       placed = made.placed;
       gaps = λ address from to none. made.gaps address from (omega (arith, to, ends)) none;
     }

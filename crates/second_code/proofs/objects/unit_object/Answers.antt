@@ -1,6 +1,6 @@
 use Rattle.std.proofs.Common.{◌≡◌, List, Option, Some, true, sym, ◌∙◌, subst}
 use Rattle.std.specs.Prelude.{IfSome, nat_le}
-use Rattle.clight_text.specs.declared.tree.External.{External}
+use Rattle.text_grammar.specs.declared.tree.External.{External}
 use Rattle.elf_file.specs.declared.parts.ObjectParts.{ObjectParts}
 use Rattle.elf_file.specs.WellFormed.{WellFormed}
 use Rattle.elf_file.specs.Written.{Written}

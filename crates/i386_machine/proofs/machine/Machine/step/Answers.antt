@@ -2,7 +2,7 @@ use Rattle.std.proofs.Common.{sym, ap, ◌∙◌}
 use Rattle.i386_machine.specs.Machine.{State}
 use Rattle.i386_machine.specs.Regions.{shapes}
 use Rattle.i386_machine.specs.Step.{Doing, Asks, Stepped, stepped}
-use Rattle.i386_machine.specs.StepLaws.{shapes-step, shapes-stepped}
+use Rattle.i386_machine.specs.laws.Steps.{shapes-step, shapes-stepped}
 use Rattle.i386_machine.proofs.machine.Machine.step.Goals as goal
 
 pub returns-in-Nothing-clause-shape : goal.returns-in-Nothing-clause-shape

@@ -3,7 +3,7 @@ use Rattle.i386_machine.specs.declared.memory.Piece.{Piece}
 use Rattle.i386_machine.specs.Pieces.{region_of, EndsWithin}
 use Rattle.i386_machine.specs.Regions.{Region, shape_of, shapes, ApartFrom, Disjoint, zeros, length-zeros}
 use Rattle.i386_machine.proofs.Accesses.{shapes_push, ends_push}
-use Rattle.i386_machine.specs.Laws.{disjoint_push}
+use Rattle.i386_machine.specs.laws.Regions.{disjoint_push}
 use Rattle.i386_machine.specs.Known.{AllKnown}
 use Rattle.i386_machine.proofs.Kept.{AllKnown_pushed}
 use Rattle.i386_machine.proofs.memory.Memory.add_region.Goals as goal

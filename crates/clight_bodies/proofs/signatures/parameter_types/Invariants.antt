@@ -1,6 +1,0 @@
-use Rattle.std.proofs.Common.{◌≡◌, map, take}
-use Rattle.clight_bodies.specs.Signatures.{parameter_type}
-use Rattle.clight_bodies.proofs.signatures.parameter_types.Given as goal
-
-abbrev pub invariant-parameters : goal.invariant-parameters
-invariant-parameters l = l.types ≡ map parameter_type (take l.parameter-index l.parameters)

@@ -1,3 +1,0 @@
-pub mod TypeLists
-pub mod MemberLists
-pub mod FunctionHeads

@@ -1,5 +1,0 @@
-use Rattle.clight_expressions.proofs.Agreeing.{whole}
-use Rattle.clight_expressions.proofs.laws.broken_expressions_have_no_type.Goals as goal
-
-pub returns : goal.returns
-returns c = whole

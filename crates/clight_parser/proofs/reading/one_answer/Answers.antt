@@ -1,5 +1,0 @@
-use Rattle.clight_parser.proofs.OneAnswer as laws
-use Rattle.clight_parser.proofs.reading.one_answer.Goals as goal
-
-pub returns : goal.returns
-returns c text answer other h g = laws.one_answer text answer other h g

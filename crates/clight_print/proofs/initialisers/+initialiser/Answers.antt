@@ -1,9 +1,0 @@
-use Rattle.std.proofs.Common.{arith}
-use Rattle.std.proofs.lemmas.Grind.{common_steps}
-use Rattle.clight_text.specs.declared.kind.Kind.TheVariants as k
-use Rattle.clight_print.specs.Canonical.{initialiser_tokens}
-use Rattle.clight_print.proofs.Rows.{separated_map}
-use Rattle.clight_print.proofs.initialisers.+initialiser.Goals as goal
-
-pub put_items-returns-after-rest : goal.put_items-returns-after-rest
-put_items-returns-after-rest t c = rw (separated_map k.Comma initialiser_tokens c.args.items.now) (grind (arith, common_steps))

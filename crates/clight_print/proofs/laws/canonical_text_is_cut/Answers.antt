@@ -1,7 +1,0 @@
-use Rattle.clight_print.specs.Canonical.{tokens_of}
-use Rattle.clight_print.proofs.CutAgain.{text_is_cut}
-use Rattle.clight_print.proofs.LexemesAlone.{tree_stands}
-use Rattle.clight_print.proofs.laws.canonical_text_is_cut.Goals as goal
-
-pub returns : goal.returns
-returns c = λ tokens tree d h. text_is_cut (tokens_of tree) (tree_stands tokens tree d h)

@@ -1,9 +1,0 @@
-use Rattle.std.proofs.Common.{◌≡◌, ◌∷◌, ◌++◌, take}
-use Rattle.std.specs.List.{flat_map}
-use Rattle.clight_text.specs.declared.kind.Kind.TheVariants as k
-use Rattle.clight_print.specs.Spelling.{fixed}
-use Rattle.clight_print.specs.Canonical.{expr_tokens}
-use Rattle.clight_print.proofs.statements.put_arguments.Given as goal
-
-abbrev pub invariant-rest : goal.invariant-rest
-invariant-rest l = l.out ≡ l.initial.out ++ flat_map (λ x. fixed k.Comma ∷ expr_tokens x) (take l.argument-index l.rest)

@@ -1,4 +1,0 @@
-pub mod Lefts
-pub mod Frames
-pub mod Processes
-pub mod Running

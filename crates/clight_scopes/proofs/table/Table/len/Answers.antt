@@ -1,7 +1,0 @@
-use Rattle.std.proofs.Common.{ap, sym, ◌∙◌, length}
-use Rattle.std.proofs.lemmas.List.{length-map}
-use Rattle.clight_scopes.proofs.TableLists.{stripped}
-use Rattle.clight_scopes.proofs.table.Table.len.Goals as goal
-
-pub returns : goal.returns
-returns g c = c.len.ensures.len ∙ sym (length-map c.self.inside.held.entries stripped) ∙ ap length c.self.view_is

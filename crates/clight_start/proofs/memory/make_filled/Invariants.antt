@@ -1,8 +1,0 @@
-use Rattle.std.proofs.Common.{◌≡◌, ◌-◌}
-use Rattle.clight_start.specs.Making.{with_block}
-use Rattle.clight_start.proofs.Making.{padded, so_far}
-use Rattle.clight_start.proofs.memory.make_filled.Given as goal
-
--- the bytes before the place are there
-abbrev pub invariant-places : goal.invariant-places
-invariant-places l = l.memory ≡ with_block l.fn.memory l.name (so_far (padded l.bytes l.size) l.place (l.size - l.place)) l.writable

@@ -1,6 +1,0 @@
-use Rattle.std.proofs.Common.{drop}
-use Rattle.clight_start.specs.Small.{AreSmall}
-use Rattle.clight_start.proofs.small.are_small.Given as goal
-
-abbrev pub invariant-units : goal.invariant-units
-invariant-units l = (AreSmall (drop l.unit-index l.units) → AreSmall l.units) × (AreSmall l.units → AreSmall (drop l.unit-index l.units))

@@ -1,8 +1,0 @@
--- What is seen in lists that were read off a tree.
-use Rattle.std.proofs.Common.{◌≡◌, List, map}
-use Rattle.std.specs.List.{flat_map}
-use Rattle.std.proofs.lemmas.List.Folds.{flat_map-map}
-use Rattle.clight_symbols.specs.Sights.{Seen, in_a_row}
-
-pub in_a_row_map : {A : Type 0} (f : A → List Seen) (xs : List A) → in_a_row (map f xs) ≡ flat_map f xs
-in_a_row_map f xs = flat_map-map (λ ss. ss) f xs

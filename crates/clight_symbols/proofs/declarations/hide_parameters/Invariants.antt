@@ -1,7 +1,0 @@
-use Rattle.std.proofs.Common.{◌≡◌, drop}
-use Rattle.clight_symbols.specs.Sights.{hidden_by}
-use Rattle.clight_symbols.proofs.declarations.hide_parameters.Given as goal
-
--- those that are left hide on from here
-abbrev pub invariant-parameters : goal.invariant-parameters
-invariant-parameters l = hidden_by l.hidden (drop l.parameter-index l.parameters) ≡ hidden_by l.initial.hidden l.parameters

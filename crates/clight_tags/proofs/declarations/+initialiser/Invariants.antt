@@ -1,7 +1,0 @@
-use Rattle.std.proofs.Common.{◌≡◌, ◌++◌, take}
-use Rattle.std.specs.List.{flat_map}
-use Rattle.clight_tags.specs.Tags.{initialiser_tags}
-use Rattle.clight_tags.proofs.declarations.+initialiser.Given as goal
-
-abbrev pub invariant-see_initialisers-items : goal.invariant-see_initialisers-items
-invariant-see_initialisers-items l = l.out ≡ l.initial.out ++ flat_map initialiser_tags (take l.item-index l.items)

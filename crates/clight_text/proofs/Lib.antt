@@ -1,5 +1,0 @@
-pub mod DigitLemmas
-pub mod FrontLemmas
-pub mod ValueLemmas
-pub mod LiteralLemmas
-pub mod LexemeLemmas

@@ -1,9 +1,0 @@
-use Rattle.std.proofs.lemmas.List.{take_rest}
-use Rattle.clight_text.specs.Lexical.{one, none}
-use Rattle.clight_text.proofs.front.string.Goals as goal
-
-pub returns-in-Some-clause-is : goal.returns-in-Some-clause-is
-returns-in-Some-clause-is c = one c.in-Some.length (rw take_rest at c.in-Some.ensures.value)
-
-pub returns-in-None-clause-is : goal.returns-in-None-clause-is
-returns-in-None-clause-is c = none (rw take_rest at c.in-None.ensures.value)

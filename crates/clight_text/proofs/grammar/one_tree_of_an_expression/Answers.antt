@@ -1,5 +1,0 @@
-use Rattle.clight_text.specs.ExpressionsRead.{one_expression}
-use Rattle.clight_text.proofs.grammar.one_tree_of_an_expression.Goals as goal
-
-pub returns : goal.returns
-returns c tokens tree other a b = one_expression tokens tree other a b

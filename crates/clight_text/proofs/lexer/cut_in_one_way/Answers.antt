@@ -1,5 +1,0 @@
-use Rattle.clight_text.specs.CutLemmas.{one_way}
-use Rattle.clight_text.proofs.lexer.cut_in_one_way.Goals as goal
-
-pub returns : goal.returns
-returns c text tokens others ending other a b = one_way 0 text tokens others ending other a b

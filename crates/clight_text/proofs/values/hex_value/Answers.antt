@@ -1,5 +1,0 @@
-use Rattle.clight_text.proofs.ValueLemmas.{reads_digits}
-use Rattle.clight_text.proofs.values.hex_value.Goals as goal
-
-pub unreachable-requires : goal.unreachable-requires
-unreachable-requires c = c.in-None.ensures (reads_digits 16 c.hex_count.result c.args.text.now c.hex_count.ensures.value c.requires)

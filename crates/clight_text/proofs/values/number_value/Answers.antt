@@ -1,5 +1,0 @@
-use Rattle.clight_text.proofs.ValueLemmas.{number_some}
-use Rattle.clight_text.proofs.values.number_value.Goals as goal
-
-pub number-requires : goal.number-requires
-number-requires c = number_some c.args.run.now c.requires

@@ -1,8 +1,0 @@
-use Rattle.clight_types.specs.SameLaws.{same_type-true, same_type-self}
-use Rattle.clight_types.proofs.same.same_types_are_one.Goals as goal
-
-pub returns-clause-one : goal.returns-clause-one
-returns-clause-one c = same_type-true
-
-pub returns-clause-itself : goal.returns-clause-itself
-returns-clause-itself c = same_type-self

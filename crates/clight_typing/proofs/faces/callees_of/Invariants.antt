@@ -1,6 +1,0 @@
-use Rattle.std.proofs.Common.{◌≡◌, drop}
-use Rattle.clight_typing.specs.Faces.{with_externals, callees_of}
-use Rattle.clight_typing.proofs.faces.callees_of.Given as goal
-
-abbrev pub invariant-externals : goal.invariant-externals
-invariant-externals l = with_externals l.symbols l.callees (drop l.external-index l.tree) ≡ callees_of l.symbols l.tree

@@ -1,0 +1,4 @@
+pub mod Translation
+pub mod Units
+pub mod Relation
+pub mod laws

@@ -1,0 +1,16 @@
+pub mod Stepping
+pub mod Evaluating
+pub mod Expressions
+pub mod Following
+pub mod Meeting
+pub mod Assigning
+pub mod Turning
+pub mod Looping
+pub mod Simulating
+pub mod Returning
+pub mod Calling
+pub mod Refining
+pub mod Functions
+pub mod Units
+pub mod Bounding
+pub mod Weighing

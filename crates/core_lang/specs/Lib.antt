@@ -1,0 +1,5 @@
+pub mod Meaning
+pub mod Prices
+pub mod Units
+pub mod Bounds
+pub mod laws

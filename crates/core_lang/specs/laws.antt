@@ -1,0 +1,4 @@
+pub mod Growth
+pub mod Opened
+pub mod Sizes
+pub mod Temporaries

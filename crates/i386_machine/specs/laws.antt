@@ -1,0 +1,4 @@
+pub mod At
+pub mod Regions
+pub mod Runs
+pub mod Steps

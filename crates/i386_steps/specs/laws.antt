@@ -1,0 +1,4 @@
+pub mod Hops
+pub mod Spellings
+pub mod StackAndCode
+pub mod ImageSemantics

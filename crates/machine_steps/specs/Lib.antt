@@ -1,4 +1,0 @@
-pub mod StackAndCode
-pub mod Spellings
-pub mod Hops
-pub mod ImageSemantics

@@ -1,0 +1,13 @@
+use Rattle.std.proofs.Common.{◌≡◌, ◌≤◌, length, vec_len}
+use Rattle.clight_sem.specs.States.{behind_loop}
+use Rattle.mean_run.specs.Lefts.{left_of}
+use Rattle.mean_run.proofs.left.Left.leave_loop.Given as goal
+
+abbrev pub invariant-entries : goal.invariant-entries
+invariant-entries l = record {
+  none : length l.self.current.now ≤ l.self.next;
+  held : behind_loop (left_of l.self.held.items) ≡ behind_loop (left_of l.initial.self.held.items);
+}
+
+abbrev pub decreases-entries : goal.decreases-entries
+decreases-entries l = vec_len l.self.held

@@ -1,0 +1,5 @@
+pub mod Scenes
+pub mod Lefts
+pub mod Frames
+pub mod Processes
+pub mod Running

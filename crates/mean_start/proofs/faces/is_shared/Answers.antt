@@ -1,0 +1,10 @@
+use Rattle.std.proofs.Common.{ap, ◌∙◌}
+use Rattle.std.specs.Option.{is_some}
+use Rattle.mean_start.proofs.Meanings.{shared_some}
+use Rattle.mean_start.proofs.faces.is_shared.Goals as goal
+
+pub returns : goal.returns
+returns c =
+    c.is_some.ensures
+    ∙ ap is_some (c.look_up.ensures ∙ c.requires.linkage.shared_sizes c.args.name.now)
+    ∙ shared_some c.args.linkage.now.units.now c.args.name.now

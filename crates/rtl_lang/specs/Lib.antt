@@ -1,0 +1,4 @@
+pub mod Meaning
+pub mod Prices
+pub mod Units
+pub mod laws

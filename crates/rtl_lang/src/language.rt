@@ -1,0 +1,32 @@
+// Rtl as a language.
+ghost use Rattle.rtl_lang.specs.Units.{named, rtl_after};
+ghost use Rattle.rtl_lang.specs.laws.Growth.{rtl_grows};
+
+use crate::syntax::RtlFn;
+use pass_core::Language;
+use unit_names::Named;
+use unit_passes::UnitOf;
+
+/// A unit of Rtl.
+pub type RtlUnit = UnitOf<RtlFn>;
+
+/// Linked units of Rtl, whose objects are named blocks. There is one layout, and it is proper.
+pub struct Rtl;
+
+impl Language for Rtl {
+    type Unit = UnitOf<RtlFn>;
+
+    type Layout = ();
+
+    ghost face = { λ u. u.naming.face };
+
+    ghost proper = { λ units layout. Unit {0} };
+
+    ghost after = { λ units layout room input n. rtl_after units room input n };
+
+    ghost grows = { λ units layout room input n. rtl_grows units room input n };
+}
+
+impl Named for Rtl {
+    ghost named = { named };
+}

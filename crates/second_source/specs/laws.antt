@@ -1,0 +1,4 @@
+pub mod Scopes
+pub mod Typed
+pub mod Walked
+pub mod Means

@@ -1,0 +1,3 @@
+pub mod ItemSights
+pub mod Sighted
+pub mod Symbols

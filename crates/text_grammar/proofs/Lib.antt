@@ -1,0 +1,6 @@
+pub mod DigitLemmas
+pub mod KeywordLemmas
+pub mod FrontLemmas
+pub mod ValueLemmas
+pub mod LiteralLemmas
+pub mod LexemeLemmas

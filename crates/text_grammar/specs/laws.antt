@@ -1,0 +1,11 @@
+pub mod Programs
+pub mod Sound
+pub mod ExpressionsRead
+pub mod StatementsRead
+pub mod DeclarationsRead
+pub mod ProgramWalks
+pub mod ProgramSteps
+pub mod SameKind
+pub mod Same
+pub mod Elements
+pub mod Cuts

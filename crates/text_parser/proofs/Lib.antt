@@ -1,0 +1,12 @@
+pub mod KindLaws
+pub mod OperatorLaws
+pub mod Steps
+pub mod ExpressionTurns
+pub mod StatementTurns
+pub mod ForTurns
+pub mod DeclarationTurns
+pub mod Faults
+pub mod SpelledLaws
+pub mod WordLaws
+pub mod DepthLaws
+pub mod OneAnswer

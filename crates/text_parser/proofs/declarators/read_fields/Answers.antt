@@ -1,0 +1,14 @@
+use Rattle.std.proofs.Common.{sym, ◌∙◌, ap, arith}
+use Rattle.text_grammar.specs.declared.kind.Kind.TheVariants as k
+use Rattle.text_grammar.specs.laws.Programs.{runs, FieldsOf}
+use Rattle.text_parser.proofs.Steps.{took}
+use Rattle.text_parser.proofs.DeclarationTurns.{fields_turn}
+use Rattle.text_parser.proofs.declarators.read_fields.Goals as goal
+
+pub commas-preserved : goal.commas-preserved
+commas-preserved c = record {
+  same = ap (λ f. runs (FieldsOf f) c.read_field.new.tokens) c.in_ok-push-2.ensures.ok
+      ∙ sym (fields_turn c.commas.found c.in_ok-next.next c.in-Some.field-0 c.commas.tokens c.next_if.new.self c.read_field.new.tokens c.in-Some.ensures c.in_ok-next.ensures.reads)
+      ∙ c.commas.invariant.same;
+  shorter = omega (arith, c.commas.invariant.shorter, took k.Comma c.commas.tokens c.in-Some.field-0 c.next_if.new.self c.in-Some.ensures, c.in_ok-next.ensures.shorter);
+}

@@ -1,0 +1,12 @@
+use Rattle.std.proofs.Common.{◌≡◌, ◌≤◌, [], ◌∷◌, length}
+use Rattle.text_grammar.specs.laws.Programs.{ArgumentsOf, runs}
+use Rattle.text_parser.proofs.simples.read_arguments.Given as goal
+
+abbrev pub invariant-commas : goal.invariant-commas
+invariant-commas l = record {
+  same : runs (ArgumentsOf l.found) l.tokens ≡ runs (ArgumentsOf (l.fn.first ∷ [])) l.fn.tokens;
+  shorter : length l.tokens ≤ length l.fn.tokens;
+}
+
+abbrev pub decreases-commas : goal.decreases-commas
+decreases-commas l = length l.tokens

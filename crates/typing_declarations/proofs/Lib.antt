@@ -1,0 +1,4 @@
+pub mod Rests
+pub mod TypeLists
+pub mod MemberLists
+pub mod FunctionHeads

@@ -1,0 +1,11 @@
+pub mod Whole
+pub mod Start
+pub mod Rows
+pub mod Sums
+pub mod Declarators
+pub mod Structs
+pub mod Reserved
+pub mod Objects
+pub mod Functions
+pub mod Locals
+pub mod laws

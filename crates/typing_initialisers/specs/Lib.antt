@@ -1,0 +1,10 @@
+pub mod Data
+pub mod Standing
+pub mod ConstantIntegers
+pub mod ConstantExpressions
+pub mod Constants
+pub mod Slots
+pub mod Initialisers
+pub mod Objects
+pub mod Members
+pub mod laws

@@ -1,0 +1,10 @@
+use Rattle.std.proofs.Common.{◌≡◌, ◌++◌, take}
+use Rattle.std.specs.List.{flat_map}
+use Rattle.typing_tags.specs.Tags.{stmt_tags, arm_tags}
+use Rattle.typing_tags.proofs.statements.+statement.Given as goal
+
+abbrev pub invariant-see_block-body : goal.invariant-see_block-body
+invariant-see_block-body l = l.out ≡ l.initial.out ++ flat_map stmt_tags (take l.statement-index l.body)
+
+abbrev pub invariant-see_arms-arms : goal.invariant-see_arms-arms
+invariant-see_arms-arms l = l.out ≡ l.initial.out ++ flat_map arm_tags (take l.arm-index l.arms)

@@ -1,0 +1,10 @@
+pub mod Types
+pub mod Widths
+pub mod Laid
+pub mod Structs
+pub mod Sizes
+pub mod Same
+pub mod Operators
+pub mod Conversions
+pub mod Meant
+pub mod laws
