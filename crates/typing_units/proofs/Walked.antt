@@ -1,6 +1,6 @@
 -- Lists that are walked from their beginning: one element more.
 use Rattle.std.proofs.Common.{ℕ, ◌≡◌, ◌+◌, ◌<◌, List, [], ◌∷◌, ◌++◌, length, drop, take, map, get_or, ap, sym, ◌∙◌}
-use Rattle.std.proofs.lemmas.List.{take_more, append_assoc, map-append}
+use Rattle.std.proofs.lemmas.List.{take_more, drop_more, append_assoc, map-append}
 use Rattle.std.proofs.lemmas.Option.{slice_get_within, get_or_from_slice_get, unwrap_or-slice_get}
 use Rattle.std.specs.Prelude.{Option, Some, slice_get, nat_lt}
 use Rattle.cc_base.specs.declared.face.SymbolName.{SymbolName}
