@@ -200,10 +200,10 @@ module _ (turns : ℕ) (names : List (List ℕ)) (files : Contents) (input : Lis
     not_run : new.files ≡ old.files → new.input ≡ old.input → new.output ≡ old.output → DidPut files [] old new
     not_run f i o = record { put = still_told f; input = i; output = o }
 
-    wanted : ((new.input ≡ old.input) × (new.output ≡ old.output)) ⊎ (Linkable (faces units) × Comes (source_after units room) turns old.input old.output (Err fault.Memory) new.input new.output) → new.files ≡ old.files → mean_told turns names files input old answer.Memory new
+    wanted : {H : Type 0} → ((new.input ≡ old.input) × (new.output ≡ old.output)) ⊎ (Linkable (faces units) × Comes (source_after units room) turns old.input old.output (Err fault.Memory) new.input new.output × H) → new.files ≡ old.files → mean_told turns names files input old answer.Memory new
     wanted (inl h) f = inl (not_run f h.0 h.1)
-    wanted (inr (fine, inl h)) f = inl (not_run f h.0 h.1)
-    wanted (inr (fine, inr h)) f = inr (still_told f, (units, are, (fine, cut)))
+    wanted (inr (fine, inl h, so)) f = inl (not_run f h.0 h.1)
+    wanted (inr (fine, inr h, so)) f = inr (still_told f, (units, are, (fine, cut)))
       where
         output_same : (new.output ≡ h.sink) ⊎ (ComesNext IsEmitting (source_after units room) h.count old.input × SinkWanted h.sink new.output) → new.output.told ≡ h.sink.told
         output_same (inl e) = ap (λ (x : SinkSeen). x.told) e
