@@ -1,0 +1,31 @@
+// The pass.
+ghost use Rattle.rtl_gen.specs.Units.{Matches};
+ghost use Rattle.rtl_gen.specs.laws.Units.{face_same, named_same, units_refine};
+
+use crate::units::rtl_unit;
+use core_lang::{Core, CoreUnit};
+use pass_core::Pass;
+use rtl_lang::{Rtl, RtlUnit};
+use std::alloc::{AllocError, Global};
+
+/// From Core to Rtl.
+#[derive(Drop)]
+pub struct RtlGen;
+
+impl Pass for RtlGen {
+    type From = Core;
+
+    type To = Rtl;
+
+    ghost matches = { Matches };
+
+    ghost back = { λ layout. layout };
+
+    ghost same_face = { face_same };
+
+    ghost refines = { λ from to layout each linked proper. (tt, λ room input allowed bytes. units_refine from to room input each bytes) };
+
+    fn run(&self, alloc: Global, unit: &CoreUnit) -> Result<RtlUnit, AllocError> {
+        rtl_unit(alloc, unit)
+    }
+}
