@@ -92,9 +92,10 @@ body_size ss = all_sizes (map statement_size ss)
 abbrev pub function_bytes : Function → ℕ
 function_bytes f = 112 + 16 * f.parameters + (body_size f.body).bytes
 
--- the return address, four saved registers, the temporaries and the arguments of calls, a word each, and the locals
+-- the return address, four saved registers, the value at the end of the body, the temporaries and the arguments of calls, a word each,
+-- and the locals
 abbrev pub function_hold : Function → ℕ
-function_hold f = 20 + 4 * (max f.parameters (body_size f.body).reach + (body_size f.body).depth + (body_size f.body).arguments) + whole_words f.locals
+function_hold f = 24 + 4 * (max f.parameters (body_size f.body).reach + (body_size f.body).depth + (body_size f.body).arguments) + whole_words f.locals
 
 abbrev pub functions_bulk : List Function → ℕ
 functions_bulk [] = 0

@@ -5,3 +5,4 @@ pub mod Expressions
 pub mod Calling
 pub mod Meeting
 pub mod Units
+pub mod Weighing

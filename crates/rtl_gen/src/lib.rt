@@ -15,6 +15,6 @@ mod statements;
 mod units;
 
 pub use functions::rtl_function;
-pub use laws::{moves, refines};
+pub use laws::{lightens, moves, refines};
 pub use pass::RtlGen;
 pub use units::rtl_unit;

@@ -1,10 +1,11 @@
 // The pass.
 ghost use Rattle.rtl_gen.specs.Units.{Matches};
 ghost use Rattle.rtl_gen.specs.laws.Units.{face_same, named_same, units_refine};
+ghost use Rattle.rtl_gen.specs.laws.Weighing.{unit_lighter, unit_holds};
 
 use crate::units::rtl_unit;
 use core_lang::{Core, CoreUnit};
-use pass_core::Pass;
+use pass_core::{Lighter, Pass};
 use rtl_lang::{Rtl, RtlUnit};
 use std::alloc::{AllocError, Global};
 
@@ -28,4 +29,10 @@ impl Pass for RtlGen {
     fn run(&self, alloc: Global, unit: &CoreUnit) -> Result<RtlUnit, AllocError> {
         rtl_unit(alloc, unit)
     }
+}
+
+impl Lighter for RtlGen {
+    ghost lighter = { unit_lighter };
+
+    ghost holds = { λ from to function m. unit_holds from to function m };
 }

@@ -1,4 +1,5 @@
 pub mod Meaning
 pub mod Prices
+pub mod Bounds
 pub mod Units
 pub mod laws

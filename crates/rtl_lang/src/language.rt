@@ -1,9 +1,10 @@
 // Rtl as a language.
+ghost use Rattle.rtl_lang.specs.Bounds.{bulk, hold};
 ghost use Rattle.rtl_lang.specs.Units.{named, rtl_after};
 ghost use Rattle.rtl_lang.specs.laws.Growth.{rtl_grows};
 
 use crate::syntax::RtlFn;
-use pass_core::Language;
+use pass_core::{Bounded, Language};
 use unit_names::Named;
 use unit_passes::UnitOf;
 
@@ -25,6 +26,12 @@ impl Language for Rtl {
     ghost after = { λ units layout room input n. rtl_after units room input n };
 
     ghost grows = { λ units layout room input n. rtl_grows units room input n };
+}
+
+impl Bounded for Rtl {
+    ghost bulk = { bulk };
+
+    ghost hold = { hold };
 }
 
 impl Named for Rtl {
