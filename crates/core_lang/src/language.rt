@@ -1,10 +1,11 @@
 // Core as a language.
 ghost use Rattle.core_lang.specs.Bounds.{bulk, hold};
-ghost use Rattle.core_lang.specs.Units.{core_after};
+ghost use Rattle.core_lang.specs.Units.{named, core_after};
 ghost use Rattle.core_lang.specs.laws.Growth.{core_grows};
 
 use crate::syntax::CoreUnit;
 use pass_core::{Bounded, Language};
+use unit_names::Named;
 
 /// Linked units of Core, whose objects are named blocks. There is one layout, and it is proper.
 pub struct Core;
@@ -27,4 +28,8 @@ impl Bounded for Core {
     ghost bulk = { bulk };
 
     ghost hold = { hold };
+}
+
+impl Named for Core {
+    ghost named = { named };
 }
