@@ -1,5 +1,5 @@
 -- What Core has for the source's expressions and statements.
-use Rattle.std.specs.Prelude.{ℕ, ◌+◌, min, List, [], ◌∷◌, ◌++◌, Option, Some, None}
+use Rattle.std.specs.Prelude.{ℕ, ◌+◌, ◌*◌, ◌%◌, min, List, [], ◌∷◌, ◌++◌, Option, Some, None}
 use Rattle.cc_base.specs.Words.{add32}
 use Rattle.block_mem.specs.declared.operator.Op.{Op}
 use Rattle.block_mem.specs.declared.operator.Op.TheVariants.{Keep, PtrAdd}
@@ -25,8 +25,28 @@ use Rattle.core_lang.specs.declared.syntax.Expression.TheOpen as parts
 use Rattle.core_lang.specs.declared.syntax.Expression.TheVariants as core
 use Rattle.core_lang.specs.declared.syntax.Statement.{Statement as Code}
 use Rattle.core_lang.specs.declared.syntax.Statement.TheVariants as code
-use Rattle.core_gen.specs.declared.made.Made.{Made}
-use Rattle.core_gen.specs.declared.made.AllMade.{AllMade}
+use Rattle.core_gen.specs.declared.operands.Operand.{Operand}
+use Rattle.core_gen.specs.declared.operands.Operands.{Operands}
+
+-- what is made of an expression: statements that go before, the value behind them, and the first temporary that is free for what
+-- else is found before the value is used
+pub record Made : Type 0 where
+  pub hoists : List Code
+  pub value : Core
+  pub next : ℕ
+
+-- the same of arguments
+pub record AllMade : Type 0 where
+  pub hoists : List Code
+  pub values : List Core
+  pub next : ℕ
+
+-- what is left where the statements stand in a list of their own
+abbrev pub operand_of : Made → Operand
+operand_of m = record { value = m.value; next = m.next }
+
+abbrev pub operands_of : AllMade → Operands
+operands_of m = record { values = m.values; next = m.next }
 
 -- what is made where this temporary and those above it are free
 abbrev pub Maker : Type 0
@@ -93,6 +113,25 @@ moved_by x offset e = core.Binary (PtrAdd 1) e (core.Constant offset)
 abbrev pub moved : ℕ → Core → Core
 moved offset e = moved_by (out-Expression e) offset e
 
+-- Operators. The address of an object takes a constant number of elements up (both the number of bytes and the offset wrap)
+
+-- the size of an element, where the operator adds to a pointer
+abbrev pub element_of : Op → Option ℕ
+element_of (PtrAdd size) = Some size
+element_of op = None
+
+-- how many bytes elements of this size take, where their number is a constant
+abbrev pub bytes_by : Option ℕ → parts.Expression-F Core → Option ℕ
+bytes_by (Some size) (parts.Expression-F.Constant number) = Some ((number * size) % 4294967296)
+bytes_by size x = None
+
+abbrev pub operated_by : Option ℕ → parts.Expression-F Core → Op → Core → Core → Core
+operated_by (Some bytes) (parts.Expression-F.Address symbol plus) op x y = core.Address symbol (add32 plus bytes)
+operated_by bytes z op x y = core.Binary op x y
+
+abbrev pub operated : Op → Core → Core → Core
+operated op x y = operated_by (bytes_by (element_of op) (out-Expression y)) (out-Expression x) op x y
+
 -- the source's temporaries are those below the first that is free. A number above these is in no checked unit; it has no value in
 -- the source, and stands for the first free one
 abbrev pub expression_gen : Expression-F Maker Maker TestMaker → Maker
@@ -102,7 +141,7 @@ expression_gen (Expression-F.Load w p) n = one_of (core.Load w) (p n)
 expression_gen (Expression-F.Decayed p) n = p n
 expression_gen (Expression-F.Address p) n = p n
 expression_gen (Expression-F.Unary op x) n = one_of (core.Unary op) (x n)
-expression_gen (Expression-F.Binary op x y) n = two_of (core.Binary op) (x n) (y (x n).next)
+expression_gen (Expression-F.Binary op x y) n = two_of (operated op) (x n) (y (x n).next)
 expression_gen (Expression-F.Both x y) n = both_of n (condition_made x n) (decided_made y n)
 expression_gen (Expression-F.Either x y) n = either_of n (condition_made x n) (decided_made y n)
 
@@ -110,7 +149,7 @@ abbrev pub place_gen : Place-F Maker Maker TestMaker → Maker
 place_gen (Place-F.Object symbol) n = plain (core.Address symbol 0) n
 place_gen (Place-F.Local index) n = plain (core.Local index) n
 place_gen (Place-F.Deref e) n = e n
-place_gen (Place-F.Index size e i) n = two_of (core.Binary (PtrAdd size)) (e n) (i (e n).next)
+place_gen (Place-F.Index size e i) n = two_of (operated (PtrAdd size)) (e n) (i (e n).next)
 place_gen (Place-F.Member offset p) n = one_of (moved offset) (p n)
 place_gen (Place-F.Arrow offset e) n = one_of (moved offset) (e n)
 

@@ -1,4 +1,5 @@
 pub mod Stepping
+pub mod Adding
 pub mod Evaluating
 pub mod Expressions
 pub mod Following

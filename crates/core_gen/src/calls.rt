@@ -1,9 +1,9 @@
-// Assignments and calls.
-ghost use Rattle.std.specs.Prelude.{◌≡◌, ◌+◌, IfOk};
-ghost use Rattle.core_gen.specs.Translation.{converted_by, assigned_to, assignment, all_made, finish, place_kept, own_place, called, call, simple_code, simple_if_any, return_code};
+// Assignments and calls. The code of each is pushed to a list of the caller's.
+ghost use Rattle.std.specs.Prelude.{◌≡◌, ◌+◌, ◌++◌, IfOk, OnOk};
+ghost use Rattle.core_gen.specs.Translation.{operands_of, converted_by, assigned_to, assignment, all_made, finish, place_kept, own_place, called, call, simple_code, simple_if_any, return_code};
 
 use crate::expressions::{made_place, made_value, within};
-use crate::made::AllMade;
+use crate::operands::Operands;
 use block_mem::Op;
 use clight_unit::{Assignment, Call, Simple, Target, Value};
 use core_lang::{Expression as Core, Statement as Code};
@@ -24,26 +24,21 @@ fn assigned_to(
     base: u32,
     target: &Target,
     value: &Value,
-) -> Result<Items<Code>, AllocError>
-    ensures { IfOk result (λ l. l ≡ assigned_to target.now base value.now) }
+    list: &mut Items<Code>,
+) -> Result<(), AllocError>
+    ensures { OnOk result (list.new ≡ list.old ++ assigned_to target.now base value.now) }
 {
     match target {
         Target::Temporary(number) => {
-            let made = made_value(alloc, &value.expression, base)?;
-            let mut list = made.hoists;
+            let made = made_value(alloc, &value.expression, base, list)?;
             let new = converted(alloc, value.conversion, made.value)?;
-            list.push(Code::Set(within(*number, base), new))?;
-            Ok(list)
+            list.push(Code::Set(within(*number, base), new))
         }
         Target::Place(width, place) => {
-            let place = made_place(alloc, place, base)?;
-            let made = made_value(alloc, &value.expression, place.next)?;
-            let mut rest = made.hoists;
+            let place = made_place(alloc, place, base, list)?;
+            let made = made_value(alloc, &value.expression, place.next, list)?;
             let new = converted(alloc, value.conversion, made.value)?;
-            rest.push(Code::Store(*width, place.value, new))?;
-            let mut list = place.hoists;
-            list.append(rest)?;
-            Ok(list)
+            list.push(Code::Store(*width, place.value, new))
         }
     }
 }
@@ -52,30 +47,31 @@ pub(crate) fn assignment(
     alloc: Global,
     base: u32,
     new: &Assignment,
-) -> Result<Items<Code>, AllocError>
-    ensures { IfOk result (λ l. l ≡ assignment base new.now) }
+    list: &mut Items<Code>,
+) -> Result<(), AllocError>
+    ensures { OnOk result (list.new ≡ list.old ++ assignment base new.now) }
 {
-    assigned_to(alloc, base, &new.target, &new.value)
+    assigned_to(alloc, base, &new.target, &new.value, list)
 }
 
-// Arguments, from left to right.
-fn arguments(alloc: Global, values: &[Value], first: u32) -> Result<AllMade, AllocError>
-    ensures { IfOk result (λ m. m ≡ all_made values.now first) }
+// Arguments, from left to right. What goes before their values is pushed.
+fn arguments(
+    alloc: Global,
+    values: &[Value],
+    first: u32,
+    hoists: &mut Items<Code>,
+) -> Result<Operands, AllocError>
+    ensures pushed { OnOk result (hoists.new ≡ hoists.old ++ (all_made values.now first).hoists) }
+    ensures values { IfOk result (λ m. m ≡ operands_of (all_made values.now first)) }
 {
-    let mut hoists = Items::new(alloc);
     let mut list = Items::new(alloc);
     let mut next = first;
     'values: for value in values {
-        let made = made_value(alloc, &value.expression, next)?;
-        hoists.append(made.hoists)?;
+        let made = made_value(alloc, &value.expression, next, hoists)?;
         list.push(converted(alloc, value.conversion, made.value)?)?;
         next = made.next;
     }
-    Ok(AllMade {
-        hoists,
-        values: list,
-        next,
-    })
+    Ok(Operands { values: list, next })
 }
 
 // What stands behind a call.
@@ -85,31 +81,31 @@ fn finish(
     from: u32,
     conversion: Op,
     target: &Target,
-) -> Result<Items<Code>, AllocError>
-    ensures { IfOk result (λ l. l ≡ finish base from conversion target.now) }
+    list: &mut Items<Code>,
+) -> Result<(), AllocError>
+    ensures { OnOk result (list.new ≡ list.old ++ finish base from conversion target.now) }
 {
     let new = converted(alloc, conversion, Core::Temporary(from))?;
-    let mut list = Items::new(alloc);
     match target {
-        Target::Temporary(number) => list.push(Code::Set(within(*number, base), new))?,
-        Target::Place(width, _) => {
-            list.push(Code::Store(*width, Core::Temporary(base), new))?;
-        }
+        Target::Temporary(number) => list.push(Code::Set(within(*number, base), new)),
+        Target::Place(width, _) => list.push(Code::Store(*width, Core::Temporary(base), new)),
     }
-    Ok(list)
 }
 
 // The place of a result is found first and kept.
-fn place_kept(alloc: Global, base: u32, target: &Option<Target>) -> Result<Items<Code>, AllocError>
-    ensures { IfOk result (λ l. l ≡ place_kept base target.now) }
+fn place_kept(
+    alloc: Global,
+    base: u32,
+    target: &Option<Target>,
+    list: &mut Items<Code>,
+) -> Result<(), AllocError>
+    ensures { OnOk result (list.new ≡ list.old ++ place_kept base target.now) }
 {
     match target {
-        None | Some(Target::Temporary(_)) => Ok(Items::new(alloc)),
+        None | Some(Target::Temporary(_)) => Ok(()),
         Some(Target::Place(_, place)) => {
-            let made = made_place(alloc, place, base)?;
-            let mut list = made.hoists;
-            list.push(Code::Set(base, made.value))?;
-            Ok(list)
+            let made = made_place(alloc, place, base, list)?;
+            list.push(Code::Set(base, made.value))
         }
     }
 }
@@ -127,58 +123,49 @@ fn own_place(target: &Option<Target>, conversion: Op) -> Option<u32>
 fn called(
     alloc: Global,
     base: u32,
-    conversion: Op,
-    target: &Option<Target>,
-    callee: u32,
+    new: &Call,
     values: Items<Core>,
-) -> Result<Items<Code>, AllocError>
-    ensures { IfOk result (λ l. l ≡ called base conversion target.now callee values) }
+    list: &mut Items<Code>,
+) -> Result<(), AllocError>
+    ensures { OnOk result (list.new ≡ list.old ++ called base new.now.conversion new.now.target new.now.callee values) }
 {
-    let mut list = Items::new(alloc);
-    if let Some(number) = own_place(target, conversion) {
-        list.push(Code::Call(Some(within(number, base)), callee, values))?;
-        return Ok(list);
+    if let Some(number) = own_place(&new.target, new.conversion) {
+        return list.push(Code::Call(Some(within(number, base)), new.callee, values));
     }
-    match target {
-        None => list.push(Code::Call(None, callee, values))?,
+    match &new.target {
+        None => list.push(Code::Call(None, new.callee, values)),
         Some(target) => {
             let Some(from) = base.checked_add(1) else {
                 return Err(AllocError);
             };
-            list.push(Code::Call(Some(from), callee, values))?;
-            list.append(finish(alloc, base, from, conversion, target)?)?;
+            list.push(Code::Call(Some(from), new.callee, values))?;
+            finish(alloc, base, from, new.conversion, target, list)
         }
     }
-    Ok(list)
 }
 
-fn call(alloc: Global, base: u32, new: &Call) -> Result<Items<Code>, AllocError>
-    ensures { IfOk result (λ l. l ≡ call base new.now) }
+fn call(alloc: Global, base: u32, new: &Call, list: &mut Items<Code>) -> Result<(), AllocError>
+    ensures { OnOk result (list.new ≡ list.old ++ call base new.now) }
 {
     let Some(first) = base.checked_add(1) else {
         return Err(AllocError);
     };
-    let mut list = place_kept(alloc, base, &new.target)?;
-    let AllMade {
-        mut hoists,
-        values,
-        ..
-    } = arguments(alloc, new.arguments.as_slice(), first)?;
-    hoists.append(called(alloc, base, new.conversion, &new.target, new.callee, values)?)?;
-    list.append(hoists)?;
-    Ok(list)
+    place_kept(alloc, base, &new.target, list)?;
+    let made = arguments(alloc, new.arguments.as_slice(), first, list)?;
+    called(alloc, base, new, made.values, list)
 }
 
 pub(crate) fn simple_code(
     alloc: Global,
     base: u32,
     simple: &Simple,
-) -> Result<Items<Code>, AllocError>
-    ensures { IfOk result (λ l. l ≡ simple_code base simple.now) }
+    list: &mut Items<Code>,
+) -> Result<(), AllocError>
+    ensures { OnOk result (list.new ≡ list.old ++ simple_code base simple.now) }
 {
     match simple {
-        Simple::Assign(new) => assignment(alloc, base, new),
-        Simple::Call(made) => call(alloc, base, made),
+        Simple::Assign(new) => assignment(alloc, base, new, list),
+        Simple::Call(made) => call(alloc, base, made, list),
     }
 }
 
@@ -186,12 +173,13 @@ pub(crate) fn simple_if_any(
     alloc: Global,
     base: u32,
     simple: &Option<Simple>,
-) -> Result<Items<Code>, AllocError>
-    ensures { IfOk result (λ l. l ≡ simple_if_any base simple.now) }
+    list: &mut Items<Code>,
+) -> Result<(), AllocError>
+    ensures { OnOk result (list.new ≡ list.old ++ simple_if_any base simple.now) }
 {
     match simple {
-        None => Ok(Items::new(alloc)),
-        Some(simple) => simple_code(alloc, base, simple),
+        None => Ok(()),
+        Some(simple) => simple_code(alloc, base, simple, list),
     }
 }
 
@@ -199,21 +187,16 @@ pub(crate) fn return_code(
     alloc: Global,
     base: u32,
     value: &Option<Value>,
-) -> Result<Items<Code>, AllocError>
-    ensures { IfOk result (λ l. l ≡ return_code base value.now) }
+    list: &mut Items<Code>,
+) -> Result<(), AllocError>
+    ensures { OnOk result (list.new ≡ list.old ++ return_code base value.now) }
 {
     match value {
-        None => {
-            let mut list = Items::new(alloc);
-            list.push(Code::Return(None))?;
-            Ok(list)
-        }
+        None => list.push(Code::Return(None)),
         Some(value) => {
-            let made = made_value(alloc, &value.expression, base)?;
-            let mut list = made.hoists;
+            let made = made_value(alloc, &value.expression, base, list)?;
             let returned = converted(alloc, value.conversion, made.value)?;
-            list.push(Code::Return(Some(returned)))?;
-            Ok(list)
+            list.push(Code::Return(Some(returned)))
         }
     }
 }

@@ -1,6 +1,6 @@
 // The pass.
 ghost use Rattle.core_gen.specs.Units.{Matches};
-ghost use Rattle.core_gen.specs.laws.Units.{face_same, units_refine};
+ghost use Rattle.core_gen.specs.laws.Units.{face_same, named_same, units_refine};
 ghost use Rattle.core_gen.specs.laws.Weighing.{unit_lighter, unit_holds};
 
 use crate::units::unit_code;
@@ -9,6 +9,7 @@ use clight_unit::ClightUnit;
 use core_lang::{Core, CoreUnit};
 use pass_core::{Lighter, Pass};
 use std::alloc::{AllocError, Global};
+use unit_names::KeepsNames;
 
 /// From the source's typed units to Core.
 #[derive(Drop)]
@@ -36,4 +37,8 @@ impl Lighter for CoreGen {
     ghost lighter = { unit_lighter };
 
     ghost holds = { λ from to function m. unit_holds from to function m };
+}
+
+impl KeepsNames for CoreGen {
+    ghost same_named = { named_same };
 }

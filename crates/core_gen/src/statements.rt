@@ -1,5 +1,5 @@
-// Statements.
-ghost use Rattle.std.specs.Prelude.{◌≡◌, ◌+◌, ◌++◌, ◌∷◌, [], map, IfOk};
+// Statements. The code of each is pushed to a list of the caller's.
+ghost use Rattle.std.specs.Prelude.{◌≡◌, ◌+◌, ◌++◌, ◌∷◌, [], map, IfOk, OnOk};
 ghost use Rattle.core_gen.specs.Translation.{tested, tested_if_any, arms_code, coded, code_of, arm_code};
 
 use crate::calls::{assignment, return_code, simple_code, simple_if_any};
@@ -10,24 +10,26 @@ use sqlite_items::Items;
 use std::alloc::{AllocError, Global};
 
 // A loop is left where its test does not hold.
-fn tested(alloc: Global, base: u32, test: &Test) -> Result<Items<Code>, AllocError>
-    ensures { IfOk result (λ l. l ≡ tested base test.now) }
+fn tested(alloc: Global, base: u32, test: &Test, list: &mut Items<Code>) -> Result<(), AllocError>
+    ensures { OnOk result (list.new ≡ list.old ++ tested base test.now) }
 {
-    let made = condition_of(alloc, test, base)?;
-    let mut list = made.hoists;
-    let mut exit = Items::new(alloc);
-    exit.push(Code::Exit(0))?;
-    list.push(Code::If(made.value, Items::new(alloc), exit))?;
-    Ok(list)
+    let made = condition_of(alloc, test, base, list)?;
+    let exit = alone(alloc, Code::Exit(0))?;
+    list.push(Code::If(made.value, Items::new(alloc), exit))
 }
 
 // So it is where it has one.
-fn tested_if_any(alloc: Global, base: u32, test: &Option<Test>) -> Result<Items<Code>, AllocError>
-    ensures { IfOk result (λ l. l ≡ tested_if_any base test.now) }
+fn tested_if_any(
+    alloc: Global,
+    base: u32,
+    test: &Option<Test>,
+    list: &mut Items<Code>,
+) -> Result<(), AllocError>
+    ensures { OnOk result (list.new ≡ list.old ++ tested_if_any base test.now) }
 {
     match test {
-        None => Ok(Items::new(alloc)),
-        Some(test) => tested(alloc, base, test),
+        None => Ok(()),
+        Some(test) => tested(alloc, base, test, list),
     }
 }
 
@@ -50,14 +52,28 @@ pub fn body_code(
     ensures { IfOk result (λ l. l ≡ coded (map (code_of base) statements.now) depth) }
 {
     let mut list = Items::new(alloc);
-    'statements: for statement in statements {
-        let code = statement_code(alloc, base, statement, depth)?;
-        list.append(code)?;
-    }
+    add_body(alloc, base, statements, depth, &mut list)?;
     Ok(list)
 }
 
-// The code of the arms of an `if`, and then of its last block.
+// The code of statements is pushed.
+#[cycle(statement)]
+fn add_body(
+    alloc: Global,
+    base: u32,
+    statements: &[Statement],
+    depth: u32,
+    list: &mut Items<Code>,
+) -> Result<(), AllocError>
+    ensures { OnOk result (list.new ≡ list.old ++ coded (map (code_of base) statements.now) depth) }
+{
+    'statements: for statement in statements {
+        statement_code(alloc, base, statement, depth, list)?;
+    }
+    Ok(())
+}
+
+// The code of the arms of an `if` is pushed; what stands behind them comes last.
 #[cycle(statement)]
 fn arms(
     alloc: Global,
@@ -72,75 +88,77 @@ fn arms(
 {
     let mut list = Items::new(alloc);
     'arms: for arm in arms {
-        let made = condition_of(alloc, &arm.test, base)?;
+        let made = condition_of(alloc, &arm.test, base, &mut list)?;
         let mut body = body_code(alloc, base, arm.body.as_slice(), inner)?;
         body.push(Code::Exit(0))?;
-        list.append(made.hoists)?;
         list.push(Code::If(made.value, body, Items::new(alloc)))?;
     }
     list.append(last)?;
     Ok(list)
 }
 
-/// The code of a statement.
+/// The code of a statement, so many blocks inside the innermost loop's body, is pushed.
 #[cycle(statement)]
 pub fn statement_code(
     alloc: Global,
     base: u32,
     statement: &Statement,
     depth: u32,
-) -> Result<Items<Code>, AllocError>
-    ensures { IfOk result (λ l. l ≡ code_of base statement.now depth) }
+    list: &mut Items<Code>,
+) -> Result<(), AllocError>
+    ensures { OnOk result (list.new ≡ list.old ++ code_of base statement.now depth) }
 {
     match statement {
-        Statement::Empty => Ok(Items::new(alloc)),
-        Statement::Initialise(new) => assignment(alloc, base, new),
-        Statement::Block(statements) => body_code(alloc, base, statements.as_slice(), depth),
+        Statement::Empty => Ok(()),
+        Statement::Initialise(new) => assignment(alloc, base, new, list),
+        Statement::Block(statements) => add_body(alloc, base, statements.as_slice(), depth, list),
         Statement::While(test, statements) => {
             let body = body_code(alloc, base, statements.as_slice(), 0)?;
-            let mut round = tested(alloc, base, test)?;
+            let mut round = Items::new(alloc);
+            tested(alloc, base, test, &mut round)?;
             round.push(Code::Block(body))?;
-            alone(alloc, Code::Block(alone(alloc, Code::Loop(round))?))
+            list.push(Code::Block(alone(alloc, Code::Loop(round))?))
         }
         Statement::Do(statements, test) => {
             let body = body_code(alloc, base, statements.as_slice(), 0)?;
             let mut round = alone(alloc, Code::Block(body))?;
-            round.append(tested(alloc, base, test)?)?;
-            alone(alloc, Code::Block(alone(alloc, Code::Loop(round))?))
+            tested(alloc, base, test, &mut round)?;
+            list.push(Code::Block(alone(alloc, Code::Loop(round))?))
         }
         Statement::Break => {
             let Some(outer) = depth.checked_add(1) else {
                 return Err(AllocError);
             };
-            alone(alloc, Code::Exit(outer))
+            list.push(Code::Exit(outer))
         }
-        Statement::Continue => alone(alloc, Code::Exit(depth)),
-        Statement::Simple(simple) => simple_code(alloc, base, simple),
+        Statement::Continue => list.push(Code::Exit(depth)),
+        Statement::Simple(simple) => simple_code(alloc, base, simple, list),
         Statement::If(all, None) => {
             let Some(inner) = depth.checked_add(1) else {
                 return Err(AllocError);
             };
-            let list = arms(alloc, base, all.as_slice(), Items::new(alloc), depth, inner)?;
-            alone(alloc, Code::Block(list))
+            let inside = arms(alloc, base, all.as_slice(), Items::new(alloc), depth, inner)?;
+            list.push(Code::Block(inside))
         }
         Statement::If(all, Some(last)) => {
             let Some(inner) = depth.checked_add(1) else {
                 return Err(AllocError);
             };
             let last = body_code(alloc, base, last.as_slice(), inner)?;
-            let list = arms(alloc, base, all.as_slice(), last, depth, inner)?;
-            alone(alloc, Code::Block(list))
+            let inside = arms(alloc, base, all.as_slice(), last, depth, inner)?;
+            list.push(Code::Block(inside))
         }
         Statement::For(first, test, step, statements) => {
             let body = body_code(alloc, base, statements.as_slice(), 0)?;
-            let mut behind = alone(alloc, Code::Block(body))?;
-            behind.append(simple_if_any(alloc, base, step)?)?;
-            let mut round = tested_if_any(alloc, base, test)?;
-            round.append(behind)?;
-            let mut list = simple_if_any(alloc, base, first)?;
-            list.push(Code::Loop(round))?;
-            alone(alloc, Code::Block(list))
+            let mut round = Items::new(alloc);
+            tested_if_any(alloc, base, test, &mut round)?;
+            round.push(Code::Block(body))?;
+            simple_if_any(alloc, base, step, &mut round)?;
+            let mut inside = Items::new(alloc);
+            simple_if_any(alloc, base, first, &mut inside)?;
+            inside.push(Code::Loop(round))?;
+            list.push(Code::Block(inside))
         }
-        Statement::Return(value) => return_code(alloc, base, value),
+        Statement::Return(value) => return_code(alloc, base, value, list),
     }
 }

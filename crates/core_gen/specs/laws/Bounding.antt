@@ -1,5 +1,5 @@
 -- What is made of a function comes to no more code than its nodes pay, and takes no more of the stack.
-use Rattle.std.specs.Prelude.{◌≡◌, ℕ, ◌+◌, ◌-◌, ◌*◌, ◌≤◌, max, min, List, [], ◌∷◌, ◌++◌, map, length, Option, Some, None}
+use Rattle.std.specs.Prelude.{◌≡◌, ℕ, ◌+◌, ◌*◌, ◌≤◌, max, min, List, [], ◌∷◌, ◌++◌, Option, Some, None}
 use Rattle.std.proofs.Common.{refl, sym, subst, arith, inl, inr}
 use Rattle.std.proofs.Math.Nat.{le-max_left, le-max_right, max-le, min-le_right}
 use Rattle.cc_base.specs.Words.{add32}
@@ -14,15 +14,15 @@ use Rattle.clight_unit.specs.declared.expression.Test.{Test}
 use Rattle.clight_unit.specs.declared.expression.Place.{Place}
 use Rattle.clight_sem.specs.Bounds.{Compared, Integer, Pointer, Another, compared_by, own_count, test_count_step, expression_count, place_count, test_count}
 use Rattle.clight_sem.specs.Prices.{expression_nodes_step, place_nodes_step}
-use Rattle.core_lang.specs.Bounds.{Size, of_bytes, and, all_sizes, leaf, expression_size, arguments_size, result_reach, value_size, statement_size, body_size}
-use Rattle.core_lang.specs.laws.Sizes.{size_constant, size_temporary, size_address, size_local, size_load, size_unary, size_binary, size_set, size_store, size_call, size_if, size_loop, size_block, size_exit, size_return}
+use Rattle.core_lang.specs.Bounds.{Size, of_bytes, and, expression_size, statement_size, body_size}
+use Rattle.core_lang.specs.laws.Sizes.{size_constant, size_temporary, size_address, size_local, size_load, size_unary, size_binary, size_set, size_store, size_if, size_exit}
 use Rattle.core_lang.specs.declared.syntax.Expression.{Expression as Core, out-Expression}
 use Rattle.core_lang.specs.declared.syntax.Expression.TheOpen as parts
 use Rattle.core_lang.specs.declared.syntax.Expression.TheVariants as core
 use Rattle.core_lang.specs.declared.syntax.Statement.{Statement as Code}
 use Rattle.core_lang.specs.declared.syntax.Statement.TheVariants as code
-use Rattle.core_gen.specs.declared.made.Made.{Made}
-use Rattle.core_gen.specs.Translation.{Maker, TestMaker, plain, one_of, two_of, set_to, compared, condition_by, condition, condition_made, set_by, decided_made, both_of, either_of, moved_by, moved, expression_gen, place_gen, test_gen, made_of, place_made, test_made, converted_by}
+use Rattle.core_gen.specs.Translation.{Made}
+use Rattle.core_gen.specs.Translation.{Maker, TestMaker, plain, one_of, two_of, set_to, compared, condition_by, condition, condition_made, set_by, decided_made, both_of, either_of, moved_by, moved, element_of, bytes_by, operated_by, operated, expression_gen, place_gen, test_gen, made_of, place_made, test_made, converted_by}
 use Rattle.core_gen.specs.laws.Assigning.{keeps_or_not, other_kept}
 
 -- Sizes
@@ -155,6 +155,19 @@ adds_moved_by (parts.Expression-F.Binary op x y) offset e b r d h p = adds_const
 adds_moved : (offset : ℕ) → Adds (moved offset) 57
 adds_moved offset e b r d h p = adds_moved_by (out-Expression e) offset e b r d h p
 
+small_operated_by : (bytes : Option ℕ) (z : parts.Expression-F Core) (op : Op) (x y : Core) (b c r d : ℕ) → Small (expression_size x) b r (1 + d) 0 → Small (expression_size y) c r d 0 → Small (expression_size (operated_by bytes z op x y)) (40 + b + c) r (1 + d) 0
+small_operated_by None z op x y b c r d p q = small_binary op x y b c r d p q
+small_operated_by (Some bytes) (parts.Expression-F.Address symbol plus) op x y b c r d p q = small_same (size_address symbol (add32 plus bytes)) (record { bytes = omega arith; reach = omega arith; depth = omega arith; arguments = omega arith })
+small_operated_by (Some bytes) (parts.Expression-F.Constant m) op x y b c r d p q = small_binary op x y b c r d p q
+small_operated_by (Some bytes) (parts.Expression-F.Temporary m) op x y b c r d p q = small_binary op x y b c r d p q
+small_operated_by (Some bytes) (parts.Expression-F.Local m) op x y b c r d p q = small_binary op x y b c r d p q
+small_operated_by (Some bytes) (parts.Expression-F.Load width inner) op x y b c r d p q = small_binary op x y b c r d p q
+small_operated_by (Some bytes) (parts.Expression-F.Unary other inner) op x y b c r d p q = small_binary op x y b c r d p q
+small_operated_by (Some bytes) (parts.Expression-F.Binary other inner second) op x y b c r d p q = small_binary op x y b c r d p q
+
+small_operated : (op : Op) (x y : Core) (b c r d : ℕ) → Small (expression_size x) b r (1 + d) 0 → Small (expression_size y) c r d 0 → Small (expression_size (operated op x y)) (40 + b + c) r (1 + d) 0
+small_operated op x y b c r d p q = small_operated_by (bytes_by (element_of op) (out-Expression y)) (out-Expression x) op x y b c r d p q
+
 adds_nothing : (more : ℕ) → Adds (λ e. e) more
 adds_nothing more e b r d h p = looser (omega arith) (omega arith) (omega arith) (omega arith) p
 
@@ -197,7 +210,7 @@ one_within n m f more slack nodes slack' nodes' x adds up h = record {
 same_within : (n : ℕ) (m : Made) (slack nodes slack' nodes' : ℕ) → Within n m slack nodes → nodes ≤ nodes' → slack' + 128 * nodes ≤ slack + 128 * nodes' → Within n m slack' nodes'
 same_within n m slack nodes slack' nodes' x up h = one_within n m (λ e. e) 0 slack nodes slack' nodes' x (adds_nothing 0) up (omega (arith, h))
 
-two_within : (n : ℕ) (m k : Made) (op : Op) (nodes nodes' slack : ℕ) → Within n m 80 nodes → Within m.next k 80 nodes' → slack ≤ 248 → Within n (two_of (core.Binary op) m k) slack (1 + nodes + nodes')
+two_within : (n : ℕ) (m k : Made) (op : Op) (nodes nodes' slack : ℕ) → Within n m 80 nodes → Within m.next k 80 nodes' → slack ≤ 248 → Within n (two_of (operated op) m k) slack (1 + nodes + nodes')
 two_within n m k op nodes nodes' slack x y h =
     let i = x.next in record {
       some = omega arith;
@@ -207,7 +220,7 @@ two_within n m k op nodes nodes' slack x y h =
       found = 40 + x.found + y.found;
       hoists = small_append m.hoists k.hoists x.hoisted y.hoisted (n + (1 + nodes + nodes') + 1) (1 + (1 + nodes + nodes')) 0
           (looser (omega arith) (omega arith) (omega arith) (omega arith) x.hoists) (looser (omega arith) (omega (arith, i)) (omega arith) (omega arith) y.hoists);
-      value = small_binary op m.value k.value x.found y.found (n + (1 + nodes + nodes') + 1) (1 + nodes + nodes')
+      value = small_operated op m.value k.value x.found y.found (n + (1 + nodes + nodes') + 1) (1 + nodes + nodes')
           (looser (omega arith) (omega arith) (omega arith) (omega arith) x.value) (looser (omega arith) (omega (arith, i)) (omega arith) (omega arith) y.value);
       within = let g = x.within in let j = y.within in omega (arith, g, j, h);
     }

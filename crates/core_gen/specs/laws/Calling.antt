@@ -33,10 +33,10 @@ use Rattle.core_lang.specs.declared.syntax.Statement.{Statement as Code}
 use Rattle.core_lang.specs.declared.syntax.Statement.TheVariants as code
 use Rattle.core_lang.specs.declared.syntax.Statement.TheOpen.{Statement-F}
 use Rattle.core_lang.specs.Meaning.{Temporaries, put, all_values, Program, Item, Do, to_do, Frame as CoreFrame, World as CoreWorld, Run as CoreRun, need_of, got, function_at as core_function_at, callee_at as core_callee_at, given as core_given, called_with as core_called_with, called_if as core_called_if, entered as core_entered, first_temporaries as core_first}
-use Rattle.pass_core.specs.Turns.{needs as core_needs, On as core_on, Ends as core_ends, Going as Goes, after_turn as after_step}
+use Rattle.pass_core.specs.Turns.{needs as core_needs, On as core_on, Ends as core_ends, Going as Goes, after_turn as after_step, wrong as core_wrong, if_room as core_if_room}
 use Rattle.core_lang.specs.Units.{core as language}
 use Rattle.core_lang.specs.Prices.{all_prices}
-use Rattle.core_gen.specs.declared.made.AllMade.{AllMade}
+use Rattle.core_gen.specs.Translation.{AllMade}
 use Rattle.pass_core.specs.Meets.{Reaches}
 use Rattle.pass_core.specs.laws.Meets.{stay, then, from_equal, costing, loosely}
 use Rattle.core_gen.specs.Translation.{made_of, place_made, all_made, finish, place_kept, own_place, called_by, call, called as called_code}
@@ -263,9 +263,10 @@ module _ (c : Linked) (functions : List (List CoreFunction)) (callees : List (Li
       let cu = core_world c u (core_first vs) (to_do (body_code (base_of f) f.body 0)) k frames in
       let stack : Below c d k (w.top ∷ w.below) frames = above d k w.top t fin rest result w.below below g q s b in
       let same : core_needs need_of frames ≡ needs (w.top ∷ w.below) = needs_same c d k (w.top ∷ w.below) frames stack in
-      subst (λ (n : ℕ). Lands c p (after_turn (if_room c u) input acts) (after_step (cond (nat_le (f.need + n) c.room) (core_on cu) (core_ends Deep)) input acts) 24) (sym same)
+      subst (λ (b : Bool). Lands c p (after_turn (if_room c u) input acts) (after_step (cond b (core_if_room need_of c.room cu) core_wrong) input acts) 24) (sym e)
+      (subst (λ (n : ℕ). Lands c p (after_turn (if_room c u) input acts) (after_step (cond (nat_le (f.need + n) c.room) (core_on cu) (core_ends Deep)) input acts) 24) (sym same)
       (room_lands u cu (nat_le (f.need + needs (w.top ∷ w.below)) c.room) h.shallow
-      (going u (core_first vs) (to_do (body_code (base_of f) f.body 0)) k frames input acts (first_fits f vs (eqb-true _ _ e)) (body_stands (base_of f) f.body) stack))
+      (going u (core_first vs) (to_do (body_code (base_of f) f.body 0)) k frames input acts (first_fits f vs (eqb-true _ _ e)) (body_stands (base_of f) f.body) stack)))
 
   function_lands : (w : World) (t : Temporaries) (rest : List Item) (fin : List Code) (d : Destination) (k : Option ℕ) (unit index : ℕ) (o : Option Function) (vs : List Value) → function_at c.units unit index ≡ o → Fits w.top.temporaries (base_of w.top.function) t → Stands (base_of w.top.function) w.top.left rest → Below c w.top.result result w.below below → Waits (base_of w.top.function) t d k fin → Right (entered c w.memory w.calls unit o vs d (w.top ∷ w.below)) input acts → Lands c p (after_turn (entered c w.memory w.calls unit o vs d (w.top ∷ w.below)) input acts) (after_step (core_called_with p (core_world c w t (to_do fin ++ rest) result below) (meaning.Function unit index) k vs) input acts) 24
   function_lands w t rest fin d k unit index None vs e g s b q h = absurd (h.right refl)

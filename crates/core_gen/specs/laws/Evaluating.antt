@@ -20,10 +20,11 @@ use Rattle.core_lang.specs.declared.syntax.Statement.TheVariants as code
 use Rattle.core_lang.specs.Meaning.{Temporaries, put, value_of, Program, Item, Do, to_do, World}
 use Rattle.core_lang.specs.Units.{core as language}
 use Rattle.core_lang.specs.Prices.{expression_price}
-use Rattle.core_gen.specs.declared.made.Made.{Made}
+use Rattle.core_gen.specs.Translation.{Made}
 use Rattle.pass_core.specs.Meets.{Reaches}
 use Rattle.pass_core.specs.laws.Meets.{stay, then, from_equal, costing, loosely}
-use Rattle.core_gen.specs.Translation.{plain, one_of, two_of, set_to, compared, condition_by, set_by, decided}
+use Rattle.core_gen.specs.Translation.{plain, one_of, two_of, set_to, compared, condition_by, set_by, operated, decided}
+use Rattle.core_gen.specs.laws.Adding.{operated_price, operated_value}
 use Rattle.core_gen.specs.laws.Stepping.{scene, stand, sets, takes, skips}
 use Rattle.core_lang.specs.laws.Opened.{value_constant, value_temporary, value_binary, price_constant, price_temporary, price_binary}
 use Rattle.core_lang.specs.laws.Temporaries.{put_same, put_below}
@@ -261,18 +262,14 @@ module _ (p : Program) (input : List ℕ) (acts : List Act) (w : World) where
   }
 
   -- two operands
-  pub paired : (t : Temporaries) (n : ℕ) (m k : Made) (op : Op) (a b v : Value) (less less' nodes nodes' : ℕ) (x : Evaluates p input acts w t n m a 17 nodes) → Evaluates p input acts w x.after m.next k b 17 nodes' → applied w.memory op a b ≡ Some v → less' ≤ 21 → Evaluates p input acts w t n (two_of (core.Binary op) m k) v less' (1 + nodes + nodes')
+  pub paired : (t : Temporaries) (n : ℕ) (m k : Made) (op : Op) (a b v : Value) (less less' nodes nodes' : ℕ) (x : Evaluates p input acts w t n m a 17 nodes) → Evaluates p input acts w x.after m.next k b 17 nodes' → applied w.memory op a b ≡ Some v → less' ≤ 21 → Evaluates p input acts w t n (two_of (operated op) m k) v less' (1 + nodes + nodes')
   paired t n m k op a b v less less' nodes nodes' x y h few = record {
     after = y.after;
     kept = λ j below. y.kept j (let g = x.more in omega (arith, g, below)) ∙ x.kept j below;
     cost = x.cost + y.cost;
     steps = λ rest. from_equal (language p) (ap (stand p input acts w t) (to_do_behind m.hoists k.hoists rest)) (then (language p) (x.steps (to_do k.hoists ++ rest)) (y.steps rest));
-    value = λ u same.
-        value_binary (scene p w u) op m.value k.value
-        ∙ ap (λ (o : Option Value). of_two w.memory op o (value_of (scene p w u) k.value)) (x.value u (λ j below. same j (let g = y.more in omega (arith, g, below)) ∙ y.kept j below))
-        ∙ ap (of_two w.memory op (Some a)) (y.value u same)
-        ∙ h;
-    within = let g = x.within in let i = y.within in let e = price_binary op m.value k.value in omega (arith, g, i, e, few);
+    value = λ u same. operated_value (scene p w u) op m.value k.value a b v (x.value u (λ j below. same j (let g = y.more in omega (arith, g, below)) ∙ y.kept j below)) (y.value u same) h;
+    within = let g = x.within in let i = y.within in let e = operated_price op m.value k.value in omega (arith, g, i, e, few);
     more = let g = x.more in let i = y.more in omega (arith, g, i);
   }
 

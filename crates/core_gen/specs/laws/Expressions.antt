@@ -26,7 +26,7 @@ use Rattle.core_lang.specs.declared.syntax.Expression.TheFolds.{map-Expression a
 use Rattle.core_lang.specs.declared.syntax.Expression.TheVariants as core
 use Rattle.core_lang.specs.Meaning.{Temporaries, behind, expression_step as core_expression_step, value_of as core_value, Program, objects_at, World}
 use Rattle.core_lang.specs.Prices.{expression_price}
-use Rattle.core_gen.specs.declared.made.Made.{Made}
+use Rattle.core_gen.specs.Translation.{Made}
 use Rattle.core_gen.specs.Translation.{Maker, TestMaker, moved_by, moved, condition, condition_made, second_of, set_to, both_of, either_of, expression_gen, place_gen, test_gen, made_of, place_made, test_made, condition_of}
 use Rattle.core_gen.specs.laws.Stepping.{scene}
 use Rattle.core_lang.specs.laws.Opened.{value_constant, value_temporary, value_address, value_local, value_load, value_unary, value_binary, price_constant, price_temporary, price_address, price_local, price_load, price_unary, price_binary}

@@ -1,14 +1,11 @@
 -- When what Core has still to do follows what the source has still to do.
-use Rattle.std.specs.Prelude.{◌≡◌, ℕ, List, [], ◌∷◌, ◌++◌, map, Option}
+use Rattle.std.specs.Prelude.{◌≡◌, ℕ, List, [], ◌∷◌, ◌++◌, map}
 use Rattle.std.proofs.Common.{suc, refl, ap, sym, subst}
-use Rattle.clight_unit.specs.declared.expression.Test.{Test}
 use Rattle.clight_unit.specs.declared.statement.Statement.{Statement}
-use Rattle.clight_unit.specs.declared.statement.Simple.{Simple}
-use Rattle.clight_sem.specs.States.{Item as Left, Whole, Alone, Again, TestOfDo, TestOfFor, StepOfFor, whole, behind_loop, from_loop}
+use Rattle.clight_sem.specs.States.{Item as Left, Whole, whole, behind_loop, from_loop}
 use Rattle.core_lang.specs.declared.syntax.Statement.{Statement as Code}
-use Rattle.core_lang.specs.declared.syntax.Statement.TheVariants as code
 use Rattle.core_lang.specs.Meaning.{Item, Do, End, to_do, leave}
-use Rattle.core_gen.specs.Translation.{coded, tested, while_round, do_round, for_round, simple_code, simple_if_any, code_of}
+use Rattle.core_gen.specs.Translation.{coded, tested, simple_code, simple_if_any, code_of}
 use Rattle.core_gen.specs.laws.Evaluating.{to_do_behind}
 use Rattle.core_gen.specs.Relation.{body_code, do_loop, for_loop, Follows, Round, Stands, nothing, at_end, at_exit, statement, simple, for_test, body_end, again, do_test, for_step, among, round}
 

@@ -1,15 +1,13 @@
 -- Functions in Core, and those of all linked units.
-use Rattle.std.specs.Prelude.{◌≡◌, ℕ, zero, suc, ◌+◌, Bool, cond, List, [], ◌∷◌, length, map, slice_get, Some, option_map}
+use Rattle.std.specs.Prelude.{◌≡◌, ℕ, zero, suc, ◌+◌, List, [], ◌∷◌, map, slice_get, Some, option_map}
 use Rattle.std.specs.Option.{option_and_then}
 use Rattle.std.proofs.Common.{refl, ap, ◌∙◌, arith}
 use Rattle.std.proofs.lemmas.Option.{slice_get-map, option_and_then_some}
 use Rattle.clight_unit.specs.declared.unit.ClightUnit.{ClightUnit as TypedUnit}
 use Rattle.clight_unit.specs.declared.function.Function.{Function}
-use Rattle.clight_sem.specs.Functions.{Linked, of_each, has_no_result, is_main_of}
+use Rattle.clight_sem.specs.Functions.{Linked, of_each, is_main_of}
 use Rattle.core_lang.specs.declared.syntax.Function.{Function as CoreFunction}
-use Rattle.core_lang.specs.declared.syntax.Ending.TheVariants as ending
 use Rattle.core_lang.specs.declared.syntax.Statement.{Statement as Code}
-use Rattle.core_gen.specs.Translation.{coded, code_of}
 use Rattle.core_gen.specs.laws.Following.{coded_body}
 use Rattle.core_gen.specs.Units.{base_of, function_code}
 use Rattle.core_gen.specs.Relation.{core_in}

@@ -17,8 +17,8 @@ use Rattle.clight_sem.specs.laws.Growth.{source_steady}
 use Rattle.clight_sem.specs.States.{World, On, Ends, Going, seen, wrong}
 use Rattle.clight_sem.specs.Turns.{source, begun, with_locals, new_frame, if_room, entered, entered_main, after_turn}
 use Rattle.core_lang.specs.declared.syntax.Function.{Function as CoreFunction}
-use Rattle.core_lang.specs.Meaning.{World as CoreWorld, to_do, begun as core_begun, entered as core_entered, first_temporaries as core_first}
-use Rattle.pass_core.specs.Turns.{On as core_on, Ends as core_ends, Going as Goes, after_turn as after_step}
+use Rattle.core_lang.specs.Meaning.{World as CoreWorld, need_of, to_do, begun as core_begun, entered as core_entered, first_temporaries as core_first}
+use Rattle.pass_core.specs.Turns.{On as core_on, Ends as core_ends, Going as Goes, after_turn as after_step, wrong as core_wrong, if_room as core_if_room}
 use Rattle.core_lang.specs.Units.{core as language}
 use Rattle.core_lang.specs.laws.Growth.{core_steady}
 use Rattle.core_gen.specs.Relation.{body_code, program, core_in, core_world, bottom, Related, going, measure}
@@ -33,8 +33,10 @@ count_starts : (c : Linked) (functions : List (List CoreFunction)) (callees : Li
 count_starts c functions callees m unit f input false e right shallow = absurd (right refl)
 count_starts c functions callees m unit f input true e right shallow =
     let u : World = record { memory = with_locals m 0 0 f.locals; calls = 1; top = new_frame unit f 0 [] to.Nowhere; below = [] } in
-    room_starts c u (core_world c u (core_first []) (to_do (body_code (base_of f) f.body 0)) None []) (nat_le (f.need + 0) c.room) input shallow
-    (going u (core_first []) (to_do (body_code (base_of f) f.body 0)) None [] input [] (first_fits f [] (eqb-true _ _ e)) (body_stands (base_of f) f.body) (bottom None to.Nowhere))
+    let cu = core_world c u (core_first []) (to_do (body_code (base_of f) f.body 0)) None [] in
+    subst (λ (b : Bool). Related c (after_turn (if_room c u) input []) (after_step (cond b (core_if_room need_of c.room cu) core_wrong) input [])) (sym e)
+    (room_starts c u cu (nat_le (f.need + 0) c.room) input shallow
+    (going u (core_first []) (to_do (body_code (base_of f) f.body 0)) None [] input [] (first_fits f [] (eqb-true _ _ e)) (body_stands (base_of f) f.body) (bottom None to.Nowhere)))
 
 function_starts : (c : Linked) (functions : List (List CoreFunction)) (callees : List (List Meaning)) → Linking c functions callees → (m : Blocks) (unit index : ℕ) (o : Option Function) (input : List ℕ) → function_at c.units unit index ≡ o → (seen (after_turn (entered c m 0 unit o [] to.Nowhere []) input [])).outcome ≢ Wrong → (seen (after_turn (entered c m 0 unit o [] to.Nowhere []) input [])).outcome ≢ Deep → Related c (after_turn (entered c m 0 unit o [] to.Nowhere []) input []) (core_begun (program c functions callees) m (Some (meaning.Function unit index)) input)
 function_starts c functions callees link m unit index None input e right shallow = absurd (right refl)

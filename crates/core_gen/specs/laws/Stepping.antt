@@ -1,6 +1,6 @@
 -- Steps of Core by the kind of the first item.
 use Rattle.std.specs.Prelude.{◌≡◌, ℕ, ◌+◌, Bool, true, false, List, [], ◌∷◌, ◌++◌, Option, Some}
-use Rattle.std.proofs.Common.{refl, ap, sym, ◌∙◌, arith}
+use Rattle.std.proofs.Common.{refl, ap, ◌∙◌, arith}
 use Rattle.cc_base.specs.declared.run.Act.{Act}
 use Rattle.block_mem.specs.Blocks.{Blocks}
 use Rattle.block_mem.specs.Access.{store}
@@ -11,7 +11,6 @@ use Rattle.core_lang.specs.declared.syntax.Expression.{Expression as Core}
 use Rattle.core_lang.specs.declared.syntax.Statement.{Statement as Code, out-Statement}
 use Rattle.core_lang.specs.declared.syntax.Statement.TheVariants as code
 use Rattle.core_lang.specs.declared.syntax.Statement.TheOpen.{Statement-F}
-use Rattle.core_lang.specs.declared.syntax.Statement.TheViews.{out-roll-Statement}
 use Rattle.core_lang.specs.Meaning.{Temporaries, put, Scene, value_of, Program, objects_at, Item, Do, End, to_do, leave, World, Turned, Run, at, statement_step, set_if, store_if, with_memory, branched}
 use Rattle.pass_core.specs.Turns.{On, Going, after_turn as after_step}
 use Rattle.core_lang.specs.Units.{core}

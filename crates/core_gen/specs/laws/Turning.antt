@@ -20,7 +20,7 @@ use Rattle.core_lang.specs.Meaning.{Temporaries, value_of as core_value, Program
 use Rattle.pass_core.specs.Turns.{Going as Goes}
 use Rattle.core_lang.specs.Units.{core as language}
 use Rattle.core_lang.specs.Prices.{expression_price}
-use Rattle.core_gen.specs.declared.made.Made.{Made}
+use Rattle.core_gen.specs.Translation.{Made}
 use Rattle.pass_core.specs.Meets.{Reaches}
 use Rattle.pass_core.specs.laws.Meets.{then, costing}
 use Rattle.core_gen.specs.Translation.{condition_of, while_round, assignment}

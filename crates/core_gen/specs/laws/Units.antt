@@ -1,10 +1,8 @@
 -- Units of Core that match units of the source, and that they do what these do.
-use Rattle.std.specs.Prelude.{◌≡◌, ◌≢◌, ℕ, Bool, false, List, [], ◌∷◌, map, slice_get, get_or, Option, Some, option_map}
+use Rattle.std.specs.Prelude.{◌≡◌, ℕ, false, List, [], ◌∷◌, map, slice_get, get_or, Option, Some, option_map}
 use Rattle.std.specs.Option.{option_and_then, option_map_or}
-use Rattle.std.specs.Str.{bytes_eq}
 use Rattle.std.proofs.Common.{refl, sym, subst, ap, ◌∙◌}
 use Rattle.std.proofs.lemmas.Option.{slice_get-map, option_and_then_some}
-use Rattle.cc_base.specs.declared.face.Face.{Face}
 use Rattle.cc_base.specs.declared.face.SymbolName.{SymbolName}
 use Rattle.pass_core.specs.Lists.{EachMatches, Beside}
 use Rattle.pass_core.specs.laws.Lists.{each_at, same_of_each}
@@ -20,7 +18,7 @@ use Rattle.unit_names.specs.Names as names
 use Rattle.unit_names.specs.Names.{FunctionPart, NamedUnit}
 use Rattle.clight_unit.specs.declared.unit.ClightUnit.{ClightUnit as TypedUnit}
 use Rattle.clight_unit.specs.declared.function.Function.{Function}
-use Rattle.clight_sem.specs.Functions.{Linked, all_parts, linked, main_of, main_name, is_main}
+use Rattle.clight_sem.specs.Functions.{Linked, all_parts, linked, main_of, is_main}
 use Rattle.clight_sem.specs.Named as clight
 use Rattle.clight_sem.specs.laws.Named as clight_laws
 use Rattle.clight_sem.specs.Turns.{source, source_after}

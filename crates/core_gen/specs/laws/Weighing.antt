@@ -1,7 +1,7 @@
 -- The code of statements, functions and units weighs no more than their nodes pay.
 use Rattle.std.specs.Prelude.{◌≡◌, ℕ, ◌+◌, ◌-◌, ◌*◌, ◌≤◌, max, min, Bool, List, [], ◌∷◌, ◌++◌, map, length, slice_get, Option, Some, None, option_map}
 use Rattle.std.specs.Option.{option_map_or}
-use Rattle.std.proofs.Common.{refl, ap, sym, ◌∙◌, subst, arith}
+use Rattle.std.proofs.Common.{ap, sym, ◌∙◌, subst, arith}
 use Rattle.std.proofs.Math.Nat.{le-max_left, le-max_right, max-le, min-le_right}
 use Rattle.std.proofs.lemmas.Option.{slice_get-map}
 use Rattle.cc_base.specs.declared.face.SymbolName.{SymbolName}
@@ -20,7 +20,7 @@ use Rattle.clight_unit.specs.declared.statement.Value.{Value as Converted}
 use Rattle.clight_unit.specs.declared.function.Function.{Function}
 use Rattle.clight_unit.specs.declared.unit.ClightUnit.{ClightUnit as TypedUnit}
 use Rattle.clight_sem.specs.Bounds.{total, expression_count, place_count, test_count, target_count, target_count_if_any, values_count, test_count_if_any, simple_count, simple_count_if_any, statement_count_step, arm_count_step, statement_count, body_count, function_count, function_hold as source_hold, functions_bulk, bulk, hold}
-use Rattle.core_lang.specs.Bounds.{Size, expression_size, arguments_size, result_reach, statement_size, body_size, function_bytes, function_hold as core_hold, functions_bulk as core_functions_bulk, bulk as core_bulk, hold as core_unit_hold}
+use Rattle.core_lang.specs.Bounds.{expression_size, arguments_size, result_reach, statement_size, body_size, function_bytes, function_hold as core_hold, functions_bulk as core_functions_bulk, bulk as core_bulk, hold as core_unit_hold}
 use Rattle.core_lang.specs.laws.Sizes.{size_call, size_loop, size_block, size_return}
 use Rattle.core_lang.specs.declared.syntax.Expression.{Expression as Core}
 use Rattle.core_lang.specs.declared.syntax.Expression.TheVariants as core
@@ -28,8 +28,7 @@ use Rattle.core_lang.specs.declared.syntax.Statement.{Statement as Code}
 use Rattle.core_lang.specs.declared.syntax.Statement.TheVariants as code
 use Rattle.core_lang.specs.declared.syntax.Function.{Function as CoreFunction}
 use Rattle.core_lang.specs.declared.syntax.CoreUnit.{CoreUnit}
-use Rattle.core_gen.specs.declared.made.Made.{Made}
-use Rattle.core_gen.specs.declared.made.AllMade.{AllMade}
+use Rattle.core_gen.specs.Translation.{AllMade}
 use Rattle.core_gen.specs.Translation.{Coder, ArmCode, made_of, place_made, test_made, condition_of, converted_by, assigned_to, all_made, finish, place_kept, own_place, called_by, called, simple_code, simple_if_any, coded, tested, tested_if_any, while_round, do_round, for_round, arms_code, statement_gen, arm_gen, code_of, arm_code}
 use Rattle.core_gen.specs.Units.{base_of, function_code, is_main_named, unit_function, Matches}
 use Rattle.core_gen.specs.laws.Bounding.{Small, small_none, small_and, looser, small_same, small_append, small_alone, small_set, small_store, small_if, small_exit, Within, small_temporary, adds_converted, condition_within, every_expression, every_place, every_test}
