@@ -1,6 +1,6 @@
 -- The meaning of Core: the value of an expression, how a run stands, and what each step does. Memory, and what operators and loads
 -- give, are the source's. Where a part has no value the run goes wrong, and the step does nothing to the outside.
-use Rattle.std.specs.Prelude.{ℕ, zero, suc, ◌+◌, ◌%◌, Bool, true, false, cond, eqb, List, [], ◌∷◌, ◌++◌, map, slice_get, get_or, Option, Some, None, option_map, option_and_then}
+use Rattle.std.specs.Prelude.{ℕ, zero, suc, ◌+◌, ◌%◌, Bool, true, false, cond, eqb, List, [], ◌∷◌, ◌++◌, length, map, slice_get, get_or, Option, Some, None, option_map, option_and_then}
 use Rattle.cc_base.specs.declared.run.Outcome.TheVariants as outcome
 use Rattle.pass_core.specs.Turns as shared
 use Rattle.pass_core.specs.Turns.{On, Asks, Gives, Ends, Going, Over, wrong, after_turn, if_room}
@@ -158,10 +158,11 @@ first_temporaries arguments = λ k. get_or (map Some arguments) k None
 abbrev pub new_frame : ℕ → Function → ℕ → List Value → Option ℕ → Frame
 new_frame unit f activation arguments to = record { unit = unit; function = f; activation = activation; temporaries = first_temporaries arguments; left = to_do f.body; result = to }
 
--- the call of a function makes a block for each of its locals
+-- the call of a function makes a block for each of its locals. A call has as many arguments as its function has parameters, or goes
+-- wrong
 abbrev pub entered : Program → Blocks → ℕ → ℕ → Option Function → List Value → Option ℕ → List Frame → Turned
 entered p m calls unit None arguments to below = wrong
-entered p m calls unit (Some f) arguments to below = if_room need_of p.room (record { memory = with_locals m calls 0 f.locals; calls = calls + 1; top = new_frame unit f calls arguments to; below = below })
+entered p m calls unit (Some f) arguments to below = cond (eqb (length arguments) f.parameters) (if_room need_of p.room (record { memory = with_locals m calls 0 f.locals; calls = calls + 1; top = new_frame unit f calls arguments to; below = below })) wrong
 
 -- `getbyte` gives a word, which goes to a temporary, if anywhere
 abbrev pub got : Option ℕ → World → ℕ → World

@@ -4,5 +4,5 @@
 mod laws;
 mod passes;
 
-pub use laws::{keeps_faces, refines};
+pub use laws::{keeps_faces, keeps_names, lightens, refines};
 pub use passes::{ToRtl, front};

@@ -9,7 +9,7 @@ use Rattle.core_lang.specs.declared.syntax.Function.{Function}
 use Rattle.core_lang.specs.Bounds.{body_size}
 use Rattle.rtl_lang.specs.declared.syntax.RtlNode.{RtlNode}
 use Rattle.rtl_lang.specs.declared.syntax.RtlNode.TheVariants as node
-use Rattle.rtl_lang.specs.declared.syntax.RtlFn.{RtlFn}
+use Rattle.rtl_lang.specs.declared.syntax.RtlParts.{RtlParts}
 use Rattle.rtl_gen.specs.Trees.{Tree, Constant, Temporary, Address, Local, Load, Unary, Binary, Code, Skip, Then, Set, Store, Call, If, Loop, Block, Exit, Return, body_code}
 
 -- where one enters, and all nodes
@@ -146,7 +146,7 @@ abbrev pub lay_body : Function → Laid
 lay_body f = lay (lay_end f).1 (base_of f) (lay_end f).0 (body_code f.body) (lay_end f).0 []
 
 -- a function in Rtl
-unfoldable pub rtl_function : Function → RtlFn
+unfoldable pub rtl_function : Function → RtlParts
 rtl_function f = record {
   symbol = f.symbol;
   is_static = f.is_static;

@@ -1,6 +1,7 @@
 pub mod Trees
 pub mod Graphs
 pub mod Laying
+pub mod Ranging
 pub mod Expressions
 pub mod Calling
 pub mod Meeting

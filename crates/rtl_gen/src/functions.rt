@@ -6,7 +6,7 @@ use crate::expressions::push;
 use crate::extents::{body_extent, greater};
 use crate::statements::sequence;
 use core_lang::{Ending, Function};
-use rtl_lang::{RtlFn, RtlNode};
+use rtl_lang::{RtlFn, RtlNode, RtlParts};
 use sqlite_items::Items;
 use std::alloc::{AllocError, Global};
 
@@ -42,7 +42,7 @@ fn end(graph: &mut Vec<RtlNode>, ending: Ending, scratch: u32) -> Result<u32, Al
 }
 
 /// A function in Rtl.
-#[tactic(auto, unfolding(crate::specs::Translation::rtl_function))]
+#[tactic(auto, using(crate::specs::laws::Ranging::function_in_range), unfolding(crate::specs::Translation::rtl_function))]
 pub fn rtl_function(alloc: Global, function: &Function) -> Result<RtlFn, AllocError>
     ensures { IfOk result (λ made. made ≡ rtl_function function.now) }
 {
@@ -57,7 +57,10 @@ pub fn rtl_function(alloc: Global, function: &Function) -> Result<RtlFn, AllocEr
     let end = end(&mut graph, function.ending, scratch)?;
     let mut exits = Vec::new(alloc);
     let entry = sequence(alloc, &mut graph, body, scratch, end, end, &mut exits)?;
-    Ok(RtlFn {
+    if graph.len() > u32::MAX as usize {
+        return Err(AllocError);
+    }
+    Ok(RtlFn::new(RtlParts {
         symbol: function.symbol,
         is_static: function.is_static,
         parameters: function.parameters,
@@ -66,5 +69,5 @@ pub fn rtl_function(alloc: Global, function: &Function) -> Result<RtlFn, AllocEr
         need: function.need,
         entry,
         graph: Items::from_vec(graph),
-    })
+    }))
 }

@@ -8,6 +8,7 @@ use core_lang::{Core, CoreUnit};
 use pass_core::{Lighter, Pass};
 use rtl_lang::{Rtl, RtlUnit};
 use std::alloc::{AllocError, Global};
+use unit_names::KeepsNames;
 
 /// From Core to Rtl.
 #[derive(Drop)]
@@ -35,4 +36,8 @@ impl Lighter for RtlGen {
     ghost lighter = { unit_lighter };
 
     ghost holds = { λ from to function m. unit_holds from to function m };
+}
+
+impl KeepsNames for RtlGen {
+    ghost same_named = { named_same };
 }

@@ -9,7 +9,7 @@ use Rattle.clight_sem.specs.Bounds.{whole_words}
 use Rattle.unit_passes.specs.declared.units.UnitOf.{UnitOf}
 use Rattle.rtl_lang.specs.declared.syntax.RtlNode.{RtlNode}
 use Rattle.rtl_lang.specs.declared.syntax.RtlNode.TheVariants as node
-use Rattle.rtl_lang.specs.declared.syntax.RtlFn.{RtlFn}
+use Rattle.rtl_lang.specs.declared.syntax.RtlParts.{RtlParts}
 
 -- Nodes
 
@@ -54,21 +54,21 @@ graph_arguments (x ∷ xs) = max (node_arguments x) (graph_arguments xs)
 -- Functions and units
 
 -- with what is done at the start of a call
-abbrev pub function_bytes : RtlFn → ℕ
+abbrev pub function_bytes : RtlParts → ℕ
 function_bytes f = 47 + 16 * f.parameters + graph_bytes f.graph
 
 -- the return address, four saved registers, the temporaries and the arguments of calls, a word each, and the locals
-abbrev pub function_hold : RtlFn → ℕ
+abbrev pub function_hold : RtlParts → ℕ
 function_hold f = 20 + 4 * (f.temporaries + graph_arguments f.graph) + whole_words f.locals
 
-abbrev pub functions_bulk : List RtlFn → ℕ
+abbrev pub functions_bulk : List RtlParts → ℕ
 functions_bulk [] = 0
 functions_bulk (f ∷ fs) = function_bytes f + functions_bulk fs
 
 -- how much code the unit may come to, in bytes
-abbrev pub bulk : UnitOf RtlFn → ℕ
+abbrev pub bulk : UnitOf RtlParts → ℕ
 bulk u = functions_bulk u.functions
 
 -- how much of the stack a call of the function of this number may take, in bytes
-abbrev pub hold : UnitOf RtlFn → ℕ → ℕ
+abbrev pub hold : UnitOf RtlParts → ℕ → ℕ
 hold u index = option_map_or function_hold (slice_get u.functions index) 0

@@ -1,5 +1,7 @@
 pub mod Meaning
 pub mod Prices
 pub mod Bounds
+pub mod Ranges
+pub mod Routines
 pub mod Units
 pub mod laws

@@ -1,6 +1,6 @@
 -- The meaning of Rtl: how a run stands, and what each node does. Memory, and what operators and loads give, are the source's. Where a
 -- part has no value the run goes wrong, and the node does nothing to the outside.
-use Rattle.std.specs.Prelude.{ℕ, ◌+◌, ◌%◌, Bool, true, false, cond, eqb, List, [], ◌∷◌, map, slice_get, get_or, Option, Some, None, option_map}
+use Rattle.std.specs.Prelude.{ℕ, ◌+◌, ◌%◌, Bool, true, false, cond, eqb, List, [], ◌∷◌, length, map, slice_get, get_or, Option, Some, None, option_map}
 use Rattle.cc_base.specs.declared.run.Outcome.TheVariants as outcome
 use Rattle.pass_core.specs.Turns.{World, Turned, On, Asks, Gives, Ends, Run, after_turn, wrong, if_room}
 use Rattle.block_mem.specs.Blocks.{Blocks}
@@ -17,7 +17,7 @@ use Rattle.clight_sem.specs.Values.{start_of, of_two, held, with_value, truth_of
 use Rattle.clight_sem.specs.Turns.{with_locals, without_locals}
 use Rattle.rtl_lang.specs.declared.syntax.RtlNode.{RtlNode}
 use Rattle.rtl_lang.specs.declared.syntax.RtlNode.TheVariants as node
-use Rattle.rtl_lang.specs.declared.syntax.RtlFn.{RtlFn}
+use Rattle.rtl_lang.specs.declared.syntax.RtlParts.{RtlParts}
 
 -- How a run stands
 
@@ -31,7 +31,7 @@ put t k v = λ j. cond (eqb j k) (Some v) (t j)
 -- an active call: its unit, its function, its number, its temporaries, the node that comes next, and where its result goes
 pub record RtlFrame : Type 0 where
   pub unit : ℕ
-  pub function : RtlFn
+  pub function : RtlParts
   pub activation : ℕ
   pub temporaries : Temporaries
   pub node : ℕ
@@ -41,7 +41,7 @@ abbrev pub RtlWorld : Type 0
 RtlWorld = World Blocks RtlFrame
 
 abbrev pub RtlProgram : Type 0
-RtlProgram = Program RtlFn
+RtlProgram = Program RtlParts
 
 -- the newest call is at this node, with these temporaries
 abbrev pub at : RtlWorld → ℕ → Temporaries → RtlWorld
@@ -89,16 +89,20 @@ branched w (Some false) this that = On (goes w that)
 abbrev pub first_temporaries : List Value → Temporaries
 first_temporaries arguments = λ k. get_or (map Some arguments) k None
 
-abbrev pub new_frame : ℕ → RtlFn → ℕ → List Value → Option ℕ → RtlFrame
+abbrev pub new_frame : ℕ → RtlParts → ℕ → List Value → Option ℕ → RtlFrame
 new_frame unit f activation arguments to = record { unit = unit; function = f; activation = activation; temporaries = first_temporaries arguments; node = f.entry; result = to }
 
 abbrev pub frame_need : RtlFrame → ℕ
 frame_need f = f.function.need
 
--- the call of a function makes a block for each of its locals
-abbrev pub entered : RtlProgram → Blocks → ℕ → ℕ → Option RtlFn → List Value → Option ℕ → List RtlFrame → Turned RtlWorld
+-- at the start of a call there is a block for each local of the function
+abbrev pub entry_of : Blocks → ℕ → ℕ → RtlParts → List Value → Option ℕ → List RtlFrame → RtlWorld
+entry_of m calls unit f arguments to below = record { memory = with_locals m calls 0 f.locals; calls = calls + 1; top = new_frame unit f calls arguments to; below = below }
+
+-- a call with another number of arguments than the function has parameters goes wrong
+abbrev pub entered : RtlProgram → Blocks → ℕ → ℕ → Option RtlParts → List Value → Option ℕ → List RtlFrame → Turned RtlWorld
 entered p m calls unit None arguments to below = wrong
-entered p m calls unit (Some f) arguments to below = if_room frame_need p.room (record { memory = with_locals m calls 0 f.locals; calls = calls + 1; top = new_frame unit f calls arguments to; below = below })
+entered p m calls unit (Some f) arguments to below = cond (eqb (length arguments) f.parameters) (if_room frame_need p.room (entry_of m calls unit f arguments to below)) wrong
 
 -- `putbyte` emits its argument modulo 256. It has no result
 abbrev pub emitted_byte : RtlWorld → Value → Turned RtlWorld

@@ -1,2 +1,3 @@
 pub mod Growth
 pub mod Temporaries
+pub mod Routines

@@ -1,12 +1,12 @@
 // Rtl as a language.
 ghost use Rattle.rtl_lang.specs.Bounds.{bulk, hold};
-ghost use Rattle.rtl_lang.specs.Units.{named, rtl_after};
+ghost use Rattle.rtl_lang.specs.Units.{function_part, named, rtl_after};
 ghost use Rattle.rtl_lang.specs.laws.Growth.{rtl_grows};
 
 use crate::syntax::RtlFn;
 use pass_core::{Bounded, Language};
 use unit_names::Named;
-use unit_passes::UnitOf;
+use unit_passes::{Functions, UnitOf};
 
 /// A unit of Rtl.
 pub type RtlUnit = UnitOf<RtlFn>;
@@ -36,4 +36,10 @@ impl Bounded for Rtl {
 
 impl Named for Rtl {
     ghost named = { named };
+}
+
+impl Functions for Rtl {
+    type Function = RtlFn;
+
+    ghost part = { function_part };
 }

@@ -1,8 +1,10 @@
 // The syntax of Rtl.
-ghost use Rattle.std.specs.Prelude.{◌≡◌, ◌<◌, ◌^◌, length};
+ghost use Rattle.std.specs.Prelude.{◌≡◌, length};
+ghost use Rattle.rtl_lang.specs.Ranges.{InRange};
 
 use block_mem::{Op, Width};
 use sqlite_items::Items;
+use std::marker::Model;
 
 /// A node. It reads and writes temporaries by their numbers, and names the nodes that follow by theirs.
 #[derive(Drop)]
@@ -68,9 +70,9 @@ pub enum RtlNode {
     },
 }
 
-/// A function's definition.
+/// What a function's definition is made of. Nothing is said of its numbers.
 #[derive(Drop)]
-pub struct RtlFn {
+pub struct RtlParts {
     /// Its symbol.
     pub symbol: u32,
     /// Other units do not see it.
@@ -88,19 +90,53 @@ pub struct RtlFn {
     pub graph: Items<RtlNode>,
 }
 
+/// A function's definition, which names no node and no temporary that it has not.
+#[derive(Drop)]
+pub struct RtlFn {
+    parts: RtlParts,
+}
+
+impl Model for RtlFn {
+    ghost use Rattle.rtl_lang.specs.declared.syntax.RtlParts.{RtlParts};
+    ghost use Rattle.rtl_lang.specs.Ranges.{InRange};
+
+    ghost Value = { RtlParts };
+
+    ghost view = { λ f. f.parts };
+
+    ghost invariant = { λ f. InRange f.parts };
+
+    ghost inverse = { λ parts. record { parts = parts } };
+}
+
 impl RtlFn {
+    /// The function of these parts.
+    pub fn new(parts: RtlParts) -> RtlFn
+        requires { InRange parts }
+        ensures { result ≡ parts }
+    {
+        RtlFn { parts }
+    }
+
+    /// What it is made of.
+    pub fn parts(&self) -> &RtlParts
+        ensures same { result.now ≡ self.now }
+        ensures range { InRange self.now }
+    {
+        &self.parts
+    }
+
     /// How many nodes it has.
     pub fn nodes(&self) -> u32
-        requires { length self.now.graph < 2 ^ 32 }
         ensures { result ≡ length self.now.graph }
     {
-        self.graph.len() as u32
+        self.parts.graph.len() as u32
     }
 
     /// How many temporaries it has.
     pub fn temps(&self) -> u32
         ensures { result ≡ self.now.temporaries }
     {
-        self.temporaries
+        self.parts.temporaries
     }
 }

@@ -1,5 +1,5 @@
 -- Turns that enter a call or leave one are met by like turns.
-use Rattle.std.specs.Prelude.{◌≡◌, ℕ, ◌+◌, ◌<◌, Bool, true, false, cond, eqb, nat_le, List, [], ◌∷◌, ◌++◌, map, slice_get, Option, Some, None, option_map}
+use Rattle.std.specs.Prelude.{◌≡◌, ℕ, ◌+◌, ◌<◌, Bool, true, false, cond, eqb, nat_le, List, [], ◌∷◌, ◌++◌, length, map, slice_get, Option, Some, None, option_map}
 use Rattle.std.specs.Option.{option_and_then}
 use Rattle.std.proofs.Common.{◌∙◌, ap, sym, refl, subst, inl, inr, arith, append-nil}
 use Rattle.std.proofs.lemmas.Bool.Decides.{eqb_tells}
@@ -20,7 +20,7 @@ use Rattle.core_lang.specs.declared.syntax.Statement.{Statement}
 use Rattle.core_lang.specs.Meaning as core
 use Rattle.core_lang.specs.Meaning.{Program, Item, Do, End, to_do, Frame, World, Temporaries}
 use Rattle.unit_passes.specs.Programs as programs
-use Rattle.rtl_lang.specs.declared.syntax.RtlFn.{RtlFn}
+use Rattle.rtl_lang.specs.declared.syntax.RtlParts.{RtlParts}
 use Rattle.rtl_lang.specs.Meaning as rtl
 use Rattle.rtl_lang.specs.Meaning.{RtlFrame, RtlWorld, RtlProgram}
 use Rattle.rtl_lang.specs.laws.Temporaries.{put_same, put_other}
@@ -34,6 +34,10 @@ use Rattle.rtl_gen.specs.laws.Laying.{body_stands}
 locals_same : (f : Function) → (rtl_function f).locals ≡ f.locals
 unfolding rtl_function
 locals_same f = refl
+
+parameters_same : (f : Function) → (rtl_function f).parameters ≡ f.parameters
+unfolding rtl_function
+parameters_same f = refl
 
 need_same : (f : Function) → (rtl_function f).need ≡ f.need
 unfolding rtl_function
@@ -59,7 +63,7 @@ entry_todo f =
     subst (λ (left : List Item). Todo (graph_of f) (base_of f) (lay_end f).0 left (rtl_function f).entry []) e
     (body_todo (graph_of f) (base_of f) (lay_end f).0 f.body [] (rtl_function f).entry (lay_end f).0 [] (body_stands f) (refl, refl))
 
-mapped : (o : Option (List Function)) (index : ℕ) → option_and_then (λ (fs : List RtlFn). slice_get fs index) (option_map (map rtl_function) o) ≡ option_map rtl_function (option_and_then (λ (fs : List Function). slice_get fs index) o)
+mapped : (o : Option (List Function)) (index : ℕ) → option_and_then (λ (fs : List RtlParts). slice_get fs index) (option_map (map rtl_function) o) ≡ option_map rtl_function (option_and_then (λ (fs : List Function). slice_get fs index) o)
 mapped None index = refl
 mapped (Some fs) index = slice_get-map rtl_function fs index
 
@@ -127,8 +131,15 @@ module _ (p : Program) where
   room_alike w v false true e r = cc
   room_alike w v false false e r = refl
 
+  -- a call goes wrong in both where the number of its arguments is another one
+  count_alike : (a b : Bool) (x : Turned World) (y : Turned RtlWorld) → b ≡ a → TurnAlike Related x y → TurnAlike Related (cond a x (Ends outcome.Wrong)) (cond b y (Ends outcome.Wrong))
+  count_alike true true x y e r = r
+  count_alike true false x y e r = cc
+  count_alike false true x y e r = cc
+  count_alike false false x y e r = refl
+
   pub function_alike : (unit index : ℕ) → programs.function_at (rtl_program p) unit index ≡ option_map rtl_function (core.function_at p unit index)
-  function_alike unit index = ap (λ o. option_and_then (λ (fs : List RtlFn). slice_get fs index) o) (slice_get-map (map rtl_function) p.functions unit) ∙ mapped (slice_get p.functions unit) index
+  function_alike unit index = ap (λ o. option_and_then (λ (fs : List RtlParts). slice_get fs index) o) (slice_get-map (map rtl_function) p.functions unit) ∙ mapped (slice_get p.functions unit) index
 
   -- the start of a call, with the calls below
   entered_alike : (m : Blocks) (calls unit : ℕ) (o : Option Function) (vs : List Value) (to : Option ℕ) (fs : List Frame) (rs : List RtlFrame) → EachMatches FrameAlike fs rs → TurnAlike Related (core.entered p m calls unit o vs to fs) (rtl.entered (rtl_program p) m calls unit (option_map rtl_function o) vs to rs)
@@ -151,7 +162,8 @@ module _ (p : Program) where
       } in
       let room : needs rtl.frame_need (there.top ∷ there.below) ≡ needs core.need_of (new.top ∷ new.below) =
       let a = needs_same fs rs below in let b = need_same f in omega (arith, a, b) in
-      room_alike new there _ _ (ap (λ (k : ℕ). nat_le k p.room) room) r
+      count_alike _ _ _ _ (ap (λ (k : ℕ). eqb (length vs) k) (parameters_same f))
+      (room_alike new there _ _ (ap (λ (k : ℕ). nat_le k p.room) room) r)
 
   gave_alike : (w : World) (v : RtlWorld) (to : Option ℕ) (vs : List Value) → Related w v → TurnAlike Related (core.gave w to vs) (rtl.gave v to vs)
   gave_alike w v None [] r = refl
@@ -167,7 +179,7 @@ module _ (p : Program) where
   pub called_alike : (w : World) (n : ℕ) (u : Temporaries) (rs : List RtlFrame) (m : Meaning) (to : Option ℕ) (vs : List Value) → Stood w.top.function w.top.left w.top.temporaries n u → EachMatches FrameAlike w.below rs → TurnAlike Related (core.called_with p w m to vs) (rtl.called_with (rtl_program p) (rtl_world w n u rs) m to vs)
   called_alike w n u rs (meaning.Function unit index) to vs x below =
       let a : FrameAlike w.top (rtl_frame w.top n u) = record { node = n; temporaries = u; same = refl; stood = x } in
-      subst (λ (o : Option RtlFn). TurnAlike Related (core.entered p w.memory w.calls unit (core.function_at p unit index) vs to (w.top ∷ w.below)) (rtl.entered (rtl_program p) w.memory w.calls unit o vs to (rtl_frame w.top n u ∷ rs))) (sym (function_alike unit index))
+      subst (λ (o : Option RtlParts). TurnAlike Related (core.entered p w.memory w.calls unit (core.function_at p unit index) vs to (w.top ∷ w.below)) (rtl.entered (rtl_program p) w.memory w.calls unit o vs to (rtl_frame w.top n u ∷ rs))) (sym (function_alike unit index))
       (entered_alike w.memory w.calls unit (core.function_at p unit index) vs to (w.top ∷ w.below) (rtl_frame w.top n u ∷ rs) (a, below))
   called_alike w n u rs meaning.GetByte to vs x below = λ word answer. got_alike w (rtl_world w n u rs) to word (related w w.top.left n u rs x below)
   called_alike w n u rs meaning.PutByte to vs x below = gave_alike w (rtl_world w n u rs) to vs (related w w.top.left n u rs x below)
@@ -175,5 +187,5 @@ module _ (p : Program) where
 
   pub main_alike : (m : Blocks) (unit index : ℕ) → TurnAlike Related (core.entered p m 0 unit (core.function_at p unit index) [] None []) (rtl.entered (rtl_program p) m 0 unit (programs.function_at (rtl_program p) unit index) [] None [])
   main_alike m unit index =
-      subst (λ (o : Option RtlFn). TurnAlike Related (core.entered p m 0 unit (core.function_at p unit index) [] None []) (rtl.entered (rtl_program p) m 0 unit o [] None [])) (sym (function_alike unit index))
+      subst (λ (o : Option RtlParts). TurnAlike Related (core.entered p m 0 unit (core.function_at p unit index) [] None []) (rtl.entered (rtl_program p) m 0 unit o [] None [])) (sym (function_alike unit index))
       (entered_alike m 0 unit (core.function_at p unit index) [] None [] [] tt)

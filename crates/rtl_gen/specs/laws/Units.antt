@@ -23,7 +23,7 @@ use Rattle.core_lang.specs.Meaning as core
 use Rattle.core_lang.specs.Meaning.{Program, World}
 use Rattle.core_lang.specs.Units as units
 use Rattle.core_lang.specs.Units.{turns, core_after}
-use Rattle.rtl_lang.specs.declared.syntax.RtlFn.{RtlFn}
+use Rattle.rtl_lang.specs.declared.syntax.RtlParts.{RtlParts}
 use Rattle.rtl_lang.specs.Meaning as rtl
 use Rattle.rtl_lang.specs.Meaning.{RtlProgram, RtlWorld}
 use Rattle.rtl_lang.specs.Units as rtl_units
@@ -45,36 +45,36 @@ parts_same [] = refl
 parts_same (f ∷ fs) = ap (λ (x : FunctionPart). x ∷ map rtl_units.function_part (map rtl_function fs)) (part_same f) ∙ ap (λ (ps : List FunctionPart). units.function_part f ∷ ps) (parts_same fs)
 
 -- units that match have the same names
-pub named_same : (u : CoreUnit) (v : UnitOf RtlFn) → Matches u v → rtl_units.named v ≡ units.named u
+pub named_same : (u : CoreUnit) (v : UnitOf RtlParts) → Matches u v → rtl_units.named v ≡ units.named u
 named_same u v m =
     ap (λ (n : Naming). record { face = n.face; globals = n.globals; symbol_names = n.symbol_names; functions = map rtl_units.function_part v.functions }) m.naming
     ∙ ap (λ (ps : List FunctionPart). record { face = u.naming.face; globals = u.naming.globals; symbol_names = u.naming.symbol_names; functions = ps })
     (ap (map rtl_units.function_part) m.functions ∙ parts_same u.functions)
 
-pub all_named_same : (us : List CoreUnit) (vs : List (UnitOf RtlFn)) → EachMatches Matches us vs → rtl_units.all_named vs ≡ units.all_named us
+pub all_named_same : (us : List CoreUnit) (vs : List (UnitOf RtlParts)) → EachMatches Matches us vs → rtl_units.all_named vs ≡ units.all_named us
 all_named_same us vs each = same_of_each units.named rtl_units.named Matches named_same us vs each
 
 -- other units see the same
-pub face_same : (u : CoreUnit) (v : UnitOf RtlFn) → Matches u v → v.naming.face ≡ u.naming.face
+pub face_same : (u : CoreUnit) (v : UnitOf RtlParts) → Matches u v → v.naming.face ≡ u.naming.face
 face_same u v m = ap (λ (n : Naming). n.face) m.naming
 
 -- Linked units
 
-functions_same : (us : List CoreUnit) (vs : List (UnitOf RtlFn)) → EachMatches Matches us vs → programs.all_functions vs ≡ map (map rtl_function) (units.all_functions us)
+functions_same : (us : List CoreUnit) (vs : List (UnitOf RtlParts)) → EachMatches Matches us vs → programs.all_functions vs ≡ map (map rtl_function) (units.all_functions us)
 functions_same [] [] each = refl
 functions_same [] (v ∷ vs) each = absurd each
 functions_same (u ∷ us) [] each = absurd each
 functions_same (u ∷ us) (v ∷ vs) each =
-    ap (λ (fs : List RtlFn). fs ∷ programs.all_functions vs) each.0.functions
-    ∙ ap (λ (fss : List (List RtlFn)). map rtl_function u.functions ∷ fss) (functions_same us vs each.1)
+    ap (λ (fs : List RtlParts). fs ∷ programs.all_functions vs) each.0.functions
+    ∙ ap (λ (fss : List (List RtlParts)). map rtl_function u.functions ∷ fss) (functions_same us vs each.1)
 
-pub linked_same : (us : List CoreUnit) (vs : List (UnitOf RtlFn)) (room : ℕ) → EachMatches Matches us vs → rtl_units.linked vs room ≡ rtl_program (units.linked us room)
+pub linked_same : (us : List CoreUnit) (vs : List (UnitOf RtlParts)) (room : ℕ) → EachMatches Matches us vs → rtl_units.linked vs room ≡ rtl_program (units.linked us room)
 linked_same us vs room each =
-    ap (λ (fs : List (List RtlFn)). record { functions = fs; objects = all_objects (rtl_units.all_named vs); callees = all_callees (rtl_units.all_named vs); room = room }) (functions_same us vs each)
+    ap (λ (fs : List (List RtlParts)). record { functions = fs; objects = all_objects (rtl_units.all_named vs); callees = all_callees (rtl_units.all_named vs); room = room }) (functions_same us vs each)
     ∙ ap (λ (ns : List NamedUnit). record { functions = map (map rtl_function) (units.all_functions us); objects = all_objects ns; callees = all_callees ns; room = room }) (all_named_same us vs each)
 
 -- each turn of Core is met
-pub units_simulate : (us : List CoreUnit) (vs : List (UnitOf RtlFn)) (room : ℕ) → EachMatches Matches us vs → Simulates (units.core (units.linked us room)) (rtl_units.rtl (rtl_units.linked vs room)) (RunAlike Related) (run_measure measure)
+pub units_simulate : (us : List CoreUnit) (vs : List (UnitOf RtlParts)) (room : ℕ) → EachMatches Matches us vs → Simulates (units.core (units.linked us room)) (rtl_units.rtl (rtl_units.linked vs room)) (RunAlike Related) (run_measure measure)
 units_simulate us vs room each =
     let p = units.linked us room in
     subst (λ (q : RtlProgram). Simulates (units.core p) (rtl_units.rtl q) (RunAlike Related) (run_measure measure)) (sym (linked_same us vs room each))
@@ -110,7 +110,7 @@ program_refines p m o input bytes =
     (turns_refine Related (turns p) (rtl_turns (rtl_program p)) measure (each_turn_met p) (core_main p m o) (rtl.main_turn (rtl_program p) m o) input (λ sound. starts_alike p m o) bytes)
 
 -- linked units do what those of Core do
-pub units_refine : (us : List CoreUnit) (vs : List (UnitOf RtlFn)) (room : ℕ) (input : List ℕ) → EachMatches Matches us vs → AreBytes input → Refines (core_after us room input) (rtl_after vs room input)
+pub units_refine : (us : List CoreUnit) (vs : List (UnitOf RtlParts)) (room : ℕ) (input : List ℕ) → EachMatches Matches us vs → AreBytes input → Refines (core_after us room input) (rtl_after vs room input)
 units_refine us vs room input each bytes =
     let p = units.linked us room in
     subst (λ (q : RtlProgram). Refines (core_after us room input) (run_of (rtl_units.rtl q) (rtl.begun q (start_of (rtl_units.all_named vs)) (main_of (rtl_units.all_named vs)) input))) (sym (linked_same us vs room each))

@@ -12,7 +12,7 @@ use Rattle.core_lang.specs.declared.syntax.Function.{Function}
 use Rattle.core_lang.specs.Bounds as core
 use Rattle.core_lang.specs.Bounds.{Size, body_size}
 use Rattle.unit_passes.specs.declared.units.UnitOf.{UnitOf}
-use Rattle.rtl_lang.specs.declared.syntax.RtlFn.{RtlFn}
+use Rattle.rtl_lang.specs.declared.syntax.RtlParts.{RtlParts}
 use Rattle.rtl_lang.specs.declared.syntax.RtlNode.{RtlNode}
 use Rattle.rtl_lang.specs.declared.syntax.RtlNode.TheVariants as node
 use Rattle.rtl_lang.specs.Bounds.{operator_bytes, node_bytes, graph_bytes, node_arguments, graph_arguments, function_bytes, function_hold, functions_bulk, bulk, hold}
@@ -223,16 +223,16 @@ functions_lighter : (fs : List Function) → functions_bulk (map rtl_function fs
 functions_lighter [] = omega arith
 functions_lighter (f ∷ fs) = let g = function_lighter f in let h = functions_lighter fs in omega (arith, g, h)
 
-pub unit_lighter : (u : CoreUnit) (v : UnitOf RtlFn) → Matches u v → bulk v ≤ core.bulk u
+pub unit_lighter : (u : CoreUnit) (v : UnitOf RtlParts) → Matches u v → bulk v ≤ core.bulk u
 unit_lighter u v m = let g = functions_lighter u.functions in let e : functions_bulk v.functions ≡ functions_bulk (map rtl_function u.functions) = ap functions_bulk m.functions in omega (arith, g, e)
 
 held_by : (o : Option Function) → option_map_or function_hold (option_map rtl_function o) 0 ≤ option_map_or core.function_hold o 0
 held_by None = omega arith
 held_by (Some f) = function_holds f
 
-pub unit_holds : (u : CoreUnit) (v : UnitOf RtlFn) (index : ℕ) → Matches u v → hold v index ≤ core.hold u index
+pub unit_holds : (u : CoreUnit) (v : UnitOf RtlParts) (index : ℕ) → Matches u v → hold v index ≤ core.hold u index
 unit_holds u v index m =
     let g = held_by (slice_get u.functions index) in
     let e : hold v index ≡ option_map_or function_hold (option_map rtl_function (slice_get u.functions index)) 0 =
-    ap (λ (fs : List RtlFn). option_map_or function_hold (slice_get fs index) 0) m.functions ∙ ap (λ (o : Option RtlFn). option_map_or function_hold o 0) (slice_get-map rtl_function u.functions index) in
+    ap (λ (fs : List RtlParts). option_map_or function_hold (slice_get fs index) 0) m.functions ∙ ap (λ (o : Option RtlParts). option_map_or function_hold o 0) (slice_get-map rtl_function u.functions index) in
     omega (arith, g, e)

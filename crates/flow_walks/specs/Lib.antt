@@ -1,0 +1,4 @@
+pub mod Flows
+pub mod Liveness
+pub mod Lists
+pub mod laws
