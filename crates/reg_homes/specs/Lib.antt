@@ -1,0 +1,4 @@
+pub mod Homes
+pub mod Units
+pub mod Relation
+pub mod laws

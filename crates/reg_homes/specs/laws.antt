@@ -1,0 +1,9 @@
+pub mod Walking
+pub mod Living
+pub mod Keeping
+pub mod Entering
+pub mod Calling
+pub mod Meeting
+pub mod Units
+pub mod Weighing
+pub mod Ranging
