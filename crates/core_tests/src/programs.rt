@@ -1,294 +1,36 @@
 // Whole programs of one or several units: what they emit and how they end, by hand, by `mean` and in Core.
-use crate::running::{as_core, as_source, unit};
-use cc_base::Outcome;
-use std::alloc::Global;
-use std::process::Abort;
+ghost use Rattle.std.specs.Prelude.{length, ◌≤◌};
+
+use crate::code::CoreCode;
+use clight_unit::ClightUnit;
+use core_gen::CoreGen;
+use pass_core::run_all;
+use std::alloc::{AllocError, Global};
 use std::test::Fail;
+use test_programs::{Target, differing};
+use test_runs::{Ran, run};
 
-// Both runs of these texts come to this, and take as much of the input.
-fn check_both(
-    rt: &impl Abort,
-    alloc: Global,
-    texts: &[&str],
-    input: &[u8],
-    emitted: &[u8],
-    outcome: Outcome,
-) -> Result<(), Fail> {
-    let mut units = Vec::new(alloc);
-    for text in texts {
-        let unit = unit(alloc, text);
-        assert!(rt; unit.is_some(), "{text}");
-        units.push(unit.ok_or("no unit")?)?;
+// How many steps a run may take.
+const STEPS: u32 = 1_000_000;
+
+// How much stack all active calls may need together, in bytes: as much as `mean` gives them.
+const ROOM: u32 = 1_048_512;
+
+struct InCore;
+
+impl Target for InCore {
+    fn run(&self, alloc: Global, units: &[ClightUnit], input: &[u8]) -> Result<Ran, AllocError> {
+        let made = run_all(&CoreGen, alloc, units)?;
+        let code = CoreCode {
+            units: made.as_slice(),
+        };
+        run(&code, alloc, units, ROOM, input, STEPS)
     }
-    let source = as_source(alloc, units.as_slice(), input)?;
-    assert!(rt; source.is_some(), "{texts:?}");
-    let source = source.ok_or("no program")?;
-    let core = as_core(alloc, units.as_slice(), input)?;
-    assert_eq!(rt; source.outcome, outcome, "{texts:?}");
-    assert_eq!(rt; core.outcome, outcome, "{texts:?}");
-    assert_eq!(rt; source.emitted.as_slice(), emitted, "{texts:?}");
-    assert_eq!(rt; core.emitted.as_slice(), emitted, "{texts:?}");
-    assert_eq!(rt; core.taken, source.taken, "{texts:?}");
-    Ok(())
 }
 
-const RECURSION: &str =
-    "int f(int n) { register int r; if (n == 0) { return 0; } r = f(n - 1); return r; } int main(void) { char pad[180]; register int r; r = f(3234); return r; }";
-
-const DEEP_RECURSION: &str =
-    "int f(int n) { register int r; if (n == 0) { return 0; } r = f(n - 1); return r; } int main(void) { char pad[180]; register int r; r = f(3235); return r; }";
-
-const STRUCTS: &str =
-    "struct s { char a; int b; char c; }; struct s t[3] = { {1, 100000, 2}, {3, 200000, 4}, {5, 300000, 6} }; int main(void) { register struct s *p; register int n; n = 0; for (p = t; p < t + 3; p = p + 1) { n = n + p->a + p->b + p->c; } if (n == 600021) { return sizeof(struct s); } return 0; }";
-
-const PLACE_FIRST: &str =
-    "int t[2]; int i; int f(void) { i = 1; return 5; } int main(void) { i = 0; t[i] = f(); return t[0] * 10 + t[1]; }";
-
-const RETURNED_CHAR: &str =
-    "char f(void) { return 200; } int main(void) { register int r; r = f(); return r == -56; }";
-
-const STORED_CHARS: &str =
-    "int main(void) { char c; register signed char r; unsigned char u; c = 200; r = 200; u = 200; return c == -56 && r == -56 && u == 200; }";
-
-const WORDS: &str =
-    "int main(void) { return 2147483647 + 1 == -2147483647 - 1 && -7 / 2 == -3 && -7 % 2 == -1 && (unsigned)(1 << 31) == 2147483648u; }";
-
-const NESTED: &str =
-    "int main(void) { register int a, b, c; a = 1; b = 2; c = 0; return (a && (b && a)) + 2 * (a && (b && c)) + 4 * ((c || b) && (a || c)) + 8 * ((c && a) || (c || c)); }";
-
-const STEPPED: &str =
-    "int main(void) { register int i, n; n = 0; for (i = 0; i < 10; i = i + 1) { if (i % 2) { if (i) { continue; } } n = n + i; } return n; }";
-
-const LOOPS: &str =
-    "int main(void) { register int i, n; i = 0; n = 0; while (1) { do { i = i + 1; if (i == 3) { continue; } else if (i > 6) { break; } n = n + i; } while (i != 3); if (i > 6) { break; } } return n; }";
-
-// Programs of one text without input.
 #[test]
-fn single_units_come_to_the_same_in_core(rt: HostRuntime) -> Result<(), Fail> {
-    let alloc = rt.alloc();
-    let table: [(&str, &[u8], Outcome); 23] = [
-        ("int main(void) { return 7; }", b"", Outcome::Ended(7)),
-        ("int main(void) { return 256; }", b"", Outcome::Ended(0)),
-        ("int main(void) { return -1; }", b"", Outcome::Ended(255)),
-        ("int main() { }", b"", Outcome::Ended(0)),
-        (
-            "int main(void) { putbyte(72); putbyte(361); return 0; }",
-            b"Hi",
-            Outcome::Ended(0),
-        ),
-        (
-            "int main(void) { register int x; x = 6; if (x == 7) { return 1; } return x * 7; }",
-            b"",
-            Outcome::Ended(42),
-        ),
-        (
-            "int main(void) { register int *p; p = 0; return p != 0 && *p == 3; }",
-            b"",
-            Outcome::Ended(0),
-        ),
-        (
-            "int main(void) { register int *p; p = 0; if (p == 0 || *p == 3) { return 9; } return 1; }",
-            b"",
-            Outcome::Ended(9),
-        ),
-        (
-            "void f(void) { putbyte(65); } int main(void) { f(); return 3; }",
-            b"A",
-            Outcome::Ended(3),
-        ),
-        (
-            "int g = 2; int f(int a, int b) { int c = 3; return a * 100 + b * 10 + c; } int main(void) { g = f(g, g && 1); return g; }",
-            b"",
-            Outcome::Ended(213),
-        ),
-        (
-            "int main(void) { register int n; for (n = 0; n < 1; n = n + 3) { continue; } return n; }",
-            b"",
-            Outcome::Ended(3),
-        ),
-        (
-            "int main(void) { for (;;) { while (1) { break; } return 3; } }",
-            b"",
-            Outcome::Ended(3),
-        ),
-        (STORED_CHARS, b"", Outcome::Ended(1)),
-        (WORDS, b"", Outcome::Ended(1)),
-        (STRUCTS, b"", Outcome::Ended(12)),
-        (RECURSION, b"", Outcome::Ended(0)),
-        (DEEP_RECURSION, b"", Outcome::Deep),
-        (
-            "int main(void) { char big[1048576]; return 0; }",
-            b"",
-            Outcome::Deep,
-        ),
-        (PLACE_FIRST, b"", Outcome::Ended(50)),
-        (RETURNED_CHAR, b"", Outcome::Ended(1)),
-        (NESTED, b"", Outcome::Ended(5)),
-        (STEPPED, b"", Outcome::Ended(20)),
-        (LOOPS, b"", Outcome::Ended(18)),
-    ];
-    for (text, emitted, outcome) in table {
-        check_both(&rt, alloc, &[text], b"", emitted, outcome)?;
-    }
-    Ok(())
-}
-
-const COPY: &str =
-    "int main(void) { register int c; c = getbyte(); while (c != -1) { putbyte(c); c = getbyte(); } c = getbyte(); return c == -1; }";
-
-const COUNTS: &str =
-    "static int g = 3; int f(void); int main(void) { register int r; r = f(); return r * 10 + g; }";
-
-const COUNTED: &str = "static int g = 4; int f(void) { return g; }";
-
-const TAIL: &str = "extern int t[5]; int *p = &t[2]; int main(void) { return *p; }";
-
-const TENS: &str = "int t[5] = {10, 20, 30, 40, 50};";
-
-const GREET: &str =
-    "static int end(void) { putbyte(33); return 0; } int greet(void) { putbyte(72); putbyte(105); end(); return 0; }";
-
-const GREETS: &str =
-    "int greet(void); static int end(void) { putbyte(10); return 0; } int main(void) { greet(); greet(); end(); return 3; }";
-
-const STACK: &str = "
-static int cells[64];
-static int top;
-int push(int v) { if (top == 64) { return 0; } cells[top] = v; top = top + 1; return 1; }
-int pop(int *into) { if (top == 0) { return 0; } top = top - 1; *into = cells[top]; return 1; }
-";
-
-const OPERATORS: &str = "
-int push(int v);
-int pop(int *into);
-int apply(int op) {
-  int a, b;
-  register int ok;
-  ok = pop(&b);
-  if (ok == 0) { return 0; }
-  ok = pop(&a);
-  if (ok == 0) { return 0; }
-  if (op == '+') { a = a + b; } else if (op == '-') { a = a - b; }
-  else if (op == '*') { a = a * b; } else if (b == 0) { return 0; } else { a = a / b; }
-  ok = push(a);
-  return ok;
-}
-";
-
-const PRINT: &str = "
-static const char bad[] = \"error\\n\";
-void print_bad(void) { register const char *p; for (p = bad; *p != 0; p = p + 1) { putbyte(*p); } }
-void print_int(int v) {
-  char digits[12];
-  register unsigned u;
-  register int n;
-  n = 0; u = v;
-  if (v < 0) { putbyte('-'); u = 0u - u; }
-  do { digits[n] = '0' + u % 10u; n = n + 1; u = u / 10u; } while (u != 0u);
-  while (n > 0) { n = n - 1; putbyte(digits[n]); }
-  putbyte('\\n');
-}
-";
-
-const CALCULATOR: &str = "
-int push(int v);
-int pop(int *into);
-int apply(int op);
-void print_int(int v);
-void print_bad(void);
-int main(void) {
-  register int c, n, digits, ok, r;
-  int v;
-  n = 0; digits = 0; ok = 1;
-  c = getbyte();
-  while (c != -1) {
-    if (c >= '0' && c <= '9') { n = n * 10 + (c - '0'); digits = 1; }
-    else {
-      if (digits) { r = push(n); ok = ok & r; n = 0; digits = 0; }
-      if (c == '+' || c == '-' || c == '*' || c == '/') { r = apply(c); ok = ok & r; }
-      if (c == '\\n') {
-        r = pop(&v); ok = ok & r;
-        if (ok) { print_int(v); } else { print_bad(); }
-        ok = 1;
-      }
-    }
-    c = getbyte();
-  }
-  return 0;
-}
-";
-
-const LINE: &str = "
-static char digits[12];
-static int count = 0;
-void line(int n) {
-  register unsigned rest;
-  count = 0;
-  rest = n;
-  if (n < 0) { putbyte('-'); rest = 0u - rest; }
-  do { digits[count] = '0' + rest % 10u; count = count + 1; rest = rest / 10u; } while (rest != 0u);
-  while (count > 0) { count = count - 1; putbyte(digits[count]); }
-  putbyte('\\n');
-}
-";
-
-const QUEENS: &str = "
-void line(int n);
-static int columns[8]; static int up[16]; static int down[16];
-int place(int row) {
-  int column; int all; int more;
-  if (row == 6) { return 1; }
-  all = 0;
-  for (column = 0; column < 6; column = column + 1) {
-    if (columns[column] || up[row + column] || down[row - column + 8]) { continue; }
-    columns[column] = 1; up[row + column] = 1; down[row - column + 8] = 1;
-    more = place(row + 1);
-    all = all + more;
-    columns[column] = 0; up[row + column] = 0; down[row - column + 8] = 0;
-  }
-  return all;
-}
-int main(void) { int n; n = place(0); line(n); return n; }
-";
-
-// Programs of several texts, or with input.
-#[test]
-fn linked_units_come_to_the_same_in_core(rt: HostRuntime) -> Result<(), Fail> {
-    let alloc = rt.alloc();
-    let table: [(&[&str], &[u8], &[u8], u8); 12] = [
-        (&[COPY], b"", b"", 1),
-        (&[COPY], b"\xff", b"\xff", 1),
-        (&[COPY], b"several bytes", b"several bytes", 1),
-        (&[COUNTS, COUNTED], b"", b"", 43),
-        (&[COUNTED, COUNTS], b"", b"", 43),
-        (&[TAIL, TENS], b"", b"", 30),
-        (&[TENS, TAIL], b"", b"", 30),
-        (&[GREETS, GREET], b"", b"Hi!Hi!\n", 3),
-        (
-            &[
-                "int x; int get(void) { return x; }",
-                "extern int x; int get(void); int main(void) { register int r; x = 41; r = get(); return r + 1; }",
-            ],
-            b"",
-            b"",
-            42,
-        ),
-        (
-            &[STACK, OPERATORS, PRINT, CALCULATOR],
-            b"12 3 4 * +\n2 7 -\n1 0 /\n",
-            b"24\n-5\nerror\n",
-            0,
-        ),
-        (
-            &[CALCULATOR, PRINT, OPERATORS, STACK],
-            b"12 3 4 * +\n2 7 -\n1 0 /\n",
-            b"24\n-5\nerror\n",
-            0,
-        ),
-        (&[QUEENS, LINE], b"", b"4\n", 4),
-    ];
-    for (texts, input, emitted, status) in table {
-        check_both(&rt, alloc, texts, input, emitted, Outcome::Ended(status))?;
-    }
+fn programs_come_to_the_same_in_core(rt: HostRuntime) -> Result<(), Fail> {
+    let differing = differing(rt.alloc(), &InCore)?;
+    assert!(rt; differing.is_empty(), "{differing:?}");
     Ok(())
 }

@@ -1,6 +1,6 @@
 use Rattle.std.proofs.Common.{◌≡◌, false, Option, Some, None, refl, sym, ◌∙◌}
 use Rattle.block_mem.specs.Blocks.{Block, live_in}
-use Rattle.core_tests.proofs.world.make.Goals as goal
+use Rattle.test_runs.proofs.blocks.make.Goals as goal
 
 -- a block that is not live is none
 none_of : (r : Option Block) → live_in r ≡ false → r ≡ None
