@@ -9,18 +9,8 @@ trap 'rm -rf "$folder"' EXIT
 program=$folder/crates/liveness_bench
 
 mkdir -p "$program/src"
-# The crates that liveness_bench stands on, and those below them.
-wanted='text_parser typing_units front_passes reg_live'
-while :; do
-    below=$(for crate in $wanted; do sed -n "s/^$crate://p" "$top/crates.txt"; done)
-    all=$(for crate in $wanted $below; do grep -o "^$crate:" "$top/crates.txt" || true; done | tr -d : | sort -u | tr '\n' ' ')
-    [ "$all" = "$wanted" ] && break
-    wanted=$all
-done
-for crate in $wanted; do
-    (cd "$top" && tar cf - --exclude=out "crates/$crate") | (cd "$folder" && tar xf -)
-    grep "^$crate:" "$top/crates.txt" >> "$folder/crates.txt"
-done
+. "$top/bench/units.sh"
+copy_crates 'text_parser typing_units front_passes reg_live'
 echo 'liveness_bench: pass_core text_parser clight_unit typing_units front_passes rtl_lang reg_live sqlite_items anyhow' >> "$folder/crates.txt"
 
 cat > "$program/src/main.rt" <<'END'
@@ -115,18 +105,15 @@ text() {
     }'
 }
 
-cd "$program"
 text straight 100 > "$folder/first.c"
-rt run -- "$folder/first.c" 1 > "$folder/log" 2>&1 || { cat "$folder/log"; exit 1; }
-built=$(find "$program/out" -maxdepth 1 -type f -perm -u+x | head -n 1)
+build "$folder/first.c" 1
 
 for shape in straight loops many; do
     last=0
     for size in 2048 4096 8192; do
         text "$shape" "$size" > "$folder/unit.c"
         found=$("$built" "$folder/unit.c" 20) || { echo "no unit: $shape $size"; exit 1; }
-        /usr/bin/time -o "$folder/peak" -f '%M' "$built" "$folder/unit.c" 1 > /dev/null
-        echo "$shape $found $last $(tail -n 1 "$folder/peak")" | awk '{
+        echo "$shape $found $last $(peak "$folder/unit.c")" | awk '{
             growth = $5 > 0 ? sprintf(", %.2f times the last", $4 / $5) : ""
             printf "%-8s %5d places, %8d listed: live %6d us%s; peak %d KiB\n", $1, $2, $3, $4, growth, $6
         }'

@@ -208,15 +208,8 @@ pub fn kinds_of(unit: &RtlUnit) -> Kinds {
 }
 END_OF_KINDS
 
-cd "$program"
 text long 1000 > "$folder/first.c"
-rt run -- rtl "$folder/first.c" 1 > "$folder/log" 2>&1 || { cat "$folder/log"; exit 1; }
-built=$(find "$program/out" -maxdepth 1 -type f -perm -u+x | head -n 1)
-
-peak() {
-    /usr/bin/time -o "$folder/peak" -f '%M' "$built" "$1" "$2" 1 > /dev/null
-    tail -n 1 "$folder/peak"
-}
+build rtl "$folder/first.c" 1
 
 for shape in long deep arms small; do
     last=0

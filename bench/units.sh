@@ -1,4 +1,5 @@
-# What core.sh and rtl.sh share: the crates that they measure, and the texts. Both set `top`, the repository, and `folder`, a temporary one.
+# What core.sh, rtl.sh and liveness.sh share: the crates that they measure, the program, and the texts of units. They set `top`, the
+# repository, `folder`, a temporary one, and `program`, the folder of the program's crate.
 
 # Copies these crates, and those below them, with their lines of crates.txt.
 copy_crates() {
@@ -14,6 +15,19 @@ copy_crates() {
         (cd "$top" && tar cf - --exclude=out "crates/$crate") | (cd "$folder" && tar xf -)
         grep "^$crate:" "$top/crates.txt" >> "$folder/crates.txt"
     done
+}
+
+# Proves, builds and runs the program with these arguments, and sets `built`. It stands in the program's folder from then on.
+build() {
+    cd "$program"
+    rt run -- "$@" > "$folder/log" 2>&1 || { cat "$folder/log"; exit 1; }
+    built=$(find "$program/out" -maxdepth 1 -type f -perm -u+x | head -n 1)
+}
+
+# The most memory that a run of the program takes, in KiB.
+peak() {
+    /usr/bin/time -o "$folder/peak" -f '%M' "$built" "$@" 1 > /dev/null
+    tail -n 1 "$folder/peak"
 }
 
 # The text of a unit of a shape, with as many nodes as the shape lets, up to this number.

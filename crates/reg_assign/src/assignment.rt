@@ -1,6 +1,6 @@
 // A location for each temporary.
-ghost use Rattle.std.specs.Prelude.{◌≡◌, ℕ, ◌<◌, length, slice_set, IfOk};
-ghost use Rattle.reg_assign.specs.Assignments.{IsRegister, HasOwnSlots};
+ghost use Rattle.std.specs.Prelude.{◌≡◌, length, IfOk};
+ghost use Rattle.reg_assign.specs.Assignments.{HasOwnSlots};
 
 use crate::homes::give_registers;
 use crate::meetings::meetings_of;
@@ -39,15 +39,6 @@ impl Assignment {
         ensures own { HasOwnSlots self.now }
     {
         self.homes.as_slice()
-    }
-
-    /// Moves a temporary to a register.
-    pub fn move_to(&mut self, temporary: u32, register: Loc)
-        requires in_range { temporary < length self.old }
-        requires register { IsRegister register }
-        ensures { self.new ≡ slice_set self.old temporary register }
-    {
-        self.homes.set(temporary as usize, register);
     }
 }
 
